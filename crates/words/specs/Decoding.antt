@@ -1,0 +1,141 @@
+-- What a number means as a word: the table of words (CoolRISC 816 manual, table 2.4), row by row.
+-- Assumes nothing.
+use mathlib.Core.Bool.{Bool, cond}
+use mathlib.Core.List.{List, [], _∷_}
+use Prim.Native.Nat.{ℕ, _-_, _/_, _^_}
+use lib.Dec.{eqb, leb}
+use Rattle.std.specs.Options.{mapped, okOr}
+use Rattle.std.specs.declared.option.Option.{Option}
+use Rattle.std.specs.declared.option.Option.the-variants.{None, Some}
+use Rattle.std.specs.declared.result.Result.{Result}
+use Rattle.std.specs.declared.result.Result.the-variants.{Err}
+use Rattle.words.specs.Bits.{low, bits, inverted, invertedBits, ones}
+use Rattle.words.specs.Codes.{register, index, condition, division, operation}
+use Rattle.words.specs.Forms.{hasForm}
+use Rattle.words.specs.declared.addresses.MemoryAddress.{MemoryAddress}
+use Rattle.words.specs.declared.addresses.MemoryAddress.the-variants.{Direct, Offset, OffsetR3, PostIncrement, PreDecrement}
+use Rattle.words.specs.declared.divisions.Division.{Division}
+use Rattle.words.specs.declared.errors.DecodeError.{DecodeError}
+use Rattle.words.specs.declared.errors.DecodeError.the-variants.{Reserved, TooWide}
+use Rattle.words.specs.declared.instructions.Instruction.{Instruction}
+use Rattle.words.specs.declared.instructions.Instruction.the-variants.{Nop, Halt, Sflag, Freq, Push, Pop, Ret, Reti, Jump, Call, Calls, AluMemory, AluImmediate, AluOneSource, AluTwoSources, Store, StoreImmediate}
+use Rattle.words.specs.declared.instructions.Target.{Target}
+use Rattle.words.specs.declared.instructions.Target.the-variants.{Address, Ip}
+use Rattle.words.specs.declared.operations.Form.{Form}
+use Rattle.words.specs.declared.operations.Form.the-variants.{Memory, Immediate, OneSource, TwoSources}
+use Rattle.words.specs.declared.operations.Operation.{Operation}
+use Rattle.words.specs.declared.registers.IndexRegister.{IndexRegister}
+use Rattle.words.specs.declared.registers.Register.{Register}
+
+-- what is read of a code, unless it names nothing
+abbrev pub reading : {X Y : Type 0} → Option X → (X → Option Y) → Option Y
+reading None f = None
+reading (Some x) f = f x
+
+-- a row may fix bits below its prefix too
+abbrev pub given : Bool → Option Instruction → Option Instruction
+given fixed i = cond fixed i None
+
+-- the operation of code n, if the form has it
+abbrev pub operationIn : Form → ℕ → Option Operation
+operationIn form n = reading (operation n) (λ op. cond (hasForm op form) (Some op) None)
+
+-- a step of seven bits: bit 7 says whether it is added after the access or subtracted before it.
+-- What is subtracted is held negated modulo 128, and a field of 0 subtracts 128.
+abbrev pub stepped : ℕ → IndexRegister → MemoryAddress
+stepped w ix = cond (eqb (bits w 7 1) 0) (PostIncrement ix (low w 7)) (PreDecrement ix (128 - low w 7))
+
+-- op:5 in bits 16 to 12, reg:4 in bits 11 to 8
+abbrev pub aluMemory : ℕ → MemoryAddress → Option Instruction
+aluMemory w source = mapped (λ op. AluMemory op (register (bits w 8 4)) source) (operationIn Memory (bits w 12 5))
+
+-- op:4 in bits 15 to 12, reg:4 in bits 11 to 8, n_data:8
+abbrev pub aluImmediate : ℕ → Option Instruction
+aluImmediate w = mapped (λ op. AluImmediate op (register (bits w 8 4)) (inverted w 8)) (operationIn Immediate (bits w 12 4))
+
+-- op2:4 op1:4 res:4. One source is op1, and bits 11 to 8 are then not read.
+abbrev pub registersOf : ℕ → Operation → Option Instruction
+registersOf w op =
+    cond (hasForm op OneSource) (Some (AluOneSource op (register (low w 4)) (register (bits w 4 4))))
+    (cond (hasForm op TwoSources) (Some (AluTwoSources op (register (low w 4)) (register (bits w 4 4)) (register (bits w 8 4)))) None)
+
+-- op:5 in bits 16 to 12, then the registers
+abbrev pub aluRegisters : ℕ → Option Instruction
+aluRegisters w = reading (operation (bits w 12 5)) (registersOf w)
+
+-- A row of the table fixes the bits from bit `low` up to the number `prefix`, and says which instruction such a word is,
+-- or none where a code in it names nothing or the form lacks the operation.
+pub record Row : Type 0 where
+  pub low : ℕ
+  pub prefix : ℕ
+  pub meaning : ℕ → Option Instruction
+
+abbrev row : ℕ → ℕ → (ℕ → Option Instruction) → Row
+row l p m = record { low = l; prefix = p; meaning = m }
+
+-- The rows, highest word first. In a name of a field `n_` marks an inverted one.
+abbrev pub rows : List Row
+rows =
+    -- all ones
+    row 0 0x3FFFFF (λ w. Some Nop)
+    -- 111111 0011 and ones
+    ∷ row 0 0x3F3FFF (λ w. Some Ret)
+    -- 111111 0001 and ones
+    ∷ row 0 0x3F1FFF (λ w. Some Reti)
+    -- 111110 1011 and ones
+    ∷ row 0 0x3EBFFF (λ w. Some Pop)
+    -- 111010 n_addr:16
+    ∷ row 16 0b111010 (λ w. Some (Calls (Address (inverted w 16))))
+    -- 111001 n_addr:16
+    ∷ row 16 0b111001 (λ w. Some (Call (Address (inverted w 16))))
+    -- 110 cc:3 n_addr:16
+    ∷ row 19 0b110 (λ w. Some (Jump (condition (bits w 16 3)) (Address (inverted w 16))))
+    -- 101101 and ones
+    ∷ row 0 0x2DFFFF (λ w. Some Push)
+    -- 101010 and ones
+    ∷ row 0 0x2AFFFF (λ w. Some (Calls Ip))
+    -- 101001 and ones
+    ∷ row 0 0x29FFFF (λ w. Some (Call Ip))
+    -- 100 cc:3 and ones
+    ∷ row 19 0b100 (λ w. given (ones (low w 16) 16) (Some (Jump (condition (bits w 16 3)) Ip)))
+    -- 011 ix:2 op:5 reg:4 offset:8
+    ∷ row 19 0b011 (λ w. aluMemory w (Offset (index (bits w 17 2)) (low w 8)))
+    -- 010 ix:2 op:5 reg:4 m step:7
+    ∷ row 19 0b010 (λ w. aluMemory w (stepped w (index (bits w 17 2))))
+    -- 001110 op:4 reg:4 n_data:8
+    ∷ row 16 0b001110 aluImmediate
+    -- 00110 op:5 op2:4 op1:4 res:4
+    ∷ row 17 0b00110 aluRegisters
+    -- 001011 1101 and ones
+    ∷ row 0 0x0BDFFF (λ w. Some Halt)
+    -- 001011 1011 and eight ones, divn:4
+    ∷ row 4 0x0BBFF (λ w. reading (division (low w 4)) (λ d. Some (Freq d)))
+    -- 001011 0111 and ones
+    ∷ row 0 0x0B7FFF (λ w. Some Sflag)
+    -- 00011 op:5 reg:4 111111 ix:2
+    ∷ row 17 0b00011 (λ w. given (ones (bits w 2 6) 6) (aluMemory w (OffsetR3 (index (low w 2)))))
+    -- 00010 op:5 reg:4 n_addr:8
+    ∷ row 17 0b00010 (λ w. aluMemory w (Direct (inverted w 8)))
+    -- 00001110 ix:2 reg:4 and ones
+    ∷ row 14 0b00001110 (λ w. given (ones (low w 8) 8) (Some (Store (OffsetR3 (index (bits w 12 2))) (register (bits w 8 4)))))
+    -- 00001101 ix:2 reg:4 m step:7
+    ∷ row 14 0b00001101 (λ w. Some (Store (stepped w (index (bits w 12 2))) (register (bits w 8 4))))
+    -- 00001011 ix:2 reg:4 offset:8
+    ∷ row 14 0b00001011 (λ w. Some (Store (Offset (index (bits w 12 2)) (low w 8)) (register (bits w 8 4))))
+    -- 000001 1011 reg:4 n_addr:8
+    ∷ row 12 0b0000011011 (λ w. Some (Store (Direct (inverted w 8)) (register (bits w 8 4))))
+    -- 000000 n_data:8 n_addr:8
+    ∷ row 16 0b000000 (λ w. Some (StoreImmediate (inverted w 8) (invertedBits w 8 8)))
+    ∷ []
+
+abbrev pub fits : Row → ℕ → Bool
+fits r w = eqb (w / 2 ^ (r .low)) (r .prefix)
+
+-- what the first row that fits says
+abbrev pub first : List Row → ℕ → Option Instruction
+first [] w = None
+first (r ∷ rs) w = cond (fits r w) (r .meaning w) (first rs w)
+
+-- a word of which no row gives an instruction is reserved
+unfoldable pub decoded : ℕ → Result Instruction DecodeError
+decoded n = cond (leb (2 ^ 22) n) (Err TooWide) (okOr (first rows n) Reserved)
