@@ -1,13 +1,15 @@
 // The words of the CoolRISC 816: instructions as types, and the way from a word to its instruction and back.
-mod addresses;
-mod conditions;
-mod decoder;
-mod divisions;
-mod encoder;
-mod errors;
-mod instructions;
-mod operations;
-mod registers;
+pub mod addresses;
+pub mod conditions;
+pub mod decoder;
+pub mod divisions;
+pub mod encoder;
+pub mod errors;
+pub mod examples;
+pub mod instructions;
+pub mod operations;
+pub mod registers;
+pub mod text;
 
 pub use addresses::MemoryAddress;
 pub use conditions::Condition;
@@ -16,6 +18,7 @@ pub use divisions::Division;
 pub use encoder::encode;
 pub use errors::DecodeError;
 pub use errors::EncodeError;
+pub use examples::worked_examples;
 pub use instructions::Instruction;
 pub use instructions::Target;
 pub use operations::Form;

@@ -1,11 +1,12 @@
 // The operations of the ALU. One set serves all forms of instruction, so a form may lack an operation.
 ghost use mathlib.Core.Path.{_≡_};
 ghost use Prim.Native.Nat.{_<_};
+ghost use Rattle.std.specs.Orderings.{Decides};
 ghost use Rattle.words.specs.Codes.{operationCode, operation};
 ghost use Rattle.words.specs.Forms.{oneSource, hasForm};
 
 // The number of each variant is the code that names it in a word.
-#[derive(Clone, Copy, PartialEq, Eq, Debug)]
+#[derive(Clone, Copy, Eq, Debug)]
 pub enum Operation {
     Cmpa = 0,
     Cmp = 1,
@@ -49,6 +50,14 @@ pub enum Form {
     OneSource,
     // two registers
     TwoSources,
+}
+
+pub impl PartialEq<Operation> for Operation as OperationPartialEq {
+    ghost equals = { λ x y r. Decides r (x ≡ y) };
+
+    fn eq(&self, other: &Operation) -> bool {
+        self.code() == other.code()
+    }
 }
 
 impl Operation {
