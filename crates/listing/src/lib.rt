@@ -2,6 +2,8 @@
 pub mod endings;
 pub mod images;
 pub mod lines;
+#[cfg(test)]
+mod tests;
 
 pub use endings::Ending;
 pub use images::ending;

@@ -9,6 +9,8 @@ pub mod examples;
 pub mod instructions;
 pub mod operations;
 pub mod registers;
+#[cfg(test)]
+mod tests;
 pub mod text;
 
 pub use addresses::MemoryAddress;
