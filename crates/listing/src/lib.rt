@@ -2,6 +2,7 @@
 pub mod endings;
 pub mod images;
 pub mod lines;
+pub mod notation;
 #[cfg(test)]
 mod tests;
 
@@ -11,3 +12,4 @@ pub use images::refused_words;
 pub use images::word_count;
 pub use lines::Line;
 pub use lines::write_listing;
+pub use notation::Notation;

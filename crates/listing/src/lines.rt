@@ -4,11 +4,12 @@ use crate::endings::EndingDisplay;
 use crate::images::ending;
 use crate::images::word_at;
 use crate::images::word_count;
+use crate::notation::Notation;
+use crate::notation::NotationDisplay;
 use std::fmt;
 use std::io;
 use std::io::Write;
 use words::decode;
-use words::text::InstructionDisplay;
 
 // A word at its address. Its text says the instruction, or the refusal.
 #[derive(Clone, Copy)]
@@ -22,7 +23,10 @@ pub impl fmt::Display for Line as LineDisplay {
         let address = self.address;
         let word = self.word;
         match decode(word) {
-            Ok(instruction) => write!(f, "{address:04X} {word:06X} {instruction}"),
+            Ok(instruction) => {
+                let text = Notation(instruction);
+                write!(f, "{address:04X} {word:06X} {text}")
+            }
             Err(error) => {
                 let number = error.number();
                 write!(f, "{address:04X} {word:06X} refused {number}")

@@ -89,7 +89,7 @@ first-none (r ∷ rs) a b w c lo hi =
     cond-false (fits r w) (r .meaning w) (first rs w) (ne-eqb _ _ miss) ∙ first-none rs a b w (parts .1) lo hi
 
 -- from a up to b the rows have no words but those of ss, which ascend
-abbrev gaps : ℕ → List ℕ → ℕ → Bool
+abbrev pub gaps : ℕ → List ℕ → ℕ → Bool
 gaps a [] b = clear a b rows
 gaps a (s ∷ ss) b = clear a s rows && gaps (suc s) ss b
 

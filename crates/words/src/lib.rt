@@ -11,7 +11,6 @@ pub mod operations;
 pub mod registers;
 #[cfg(test)]
 mod tests;
-pub mod text;
 
 pub use addresses::MemoryAddress;
 pub use conditions::Condition;
