@@ -36,7 +36,7 @@ use Rattle.words.specs.declared.registers.IndexRegister.{IndexRegister}
 use Rattle.words.specs.declared.registers.Register.{Register}
 use Rattle.words.proofs.Fields.{field, lowest}
 use Rattle.words.proofs.Names.{immediate-below, registerCode-below, register-named, indexCode-below, index-named, conditionCode-below, condition-named, divisionCode-below, division-named, operationCode-below, operation-named}
-use Rattle.words.proofs.Rows.{Has, none, at-row}
+use Rattle.words.proofs.Fitting.{Has, none, at-row}
 
 -- what stands at a place of a sum is read there
 register-at : (w k p rest : ℕ) (r : Register) → w ≡ (p * 2 ^ 4 + registerCode r) * 2 ^ k + rest → rest < 2 ^ k → register (bits w k 4) ≡ r
@@ -95,7 +95,7 @@ complete w Sflag h = row-says 17 (lit< tt) w (omega arith) refl
 complete w (Freq d) h =
     let lt = divisionCode-below d in
     row-says 16 (lit< tt) w (omega arith)
-    (ap (λ o. reading o (λ x. Some (Freq x))) (division-named (low w 4) d (lowest w 4 0x0BBFF (divisionCode d) (omega arith) lt)))
+    (ap (mapped Freq) (division-named (low w 4) d (lowest w 4 0x0BBFF (divisionCode d) (omega arith) lt)))
 complete w Push h = row-says 7 (lit< tt) w (omega arith) refl
 complete w Pop h = row-says 3 (lit< tt) w (omega arith) refl
 complete w Ret h = row-says 1 (lit< tt) w (omega arith) refl

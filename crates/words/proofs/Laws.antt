@@ -22,7 +22,7 @@ use Rattle.words.specs.declared.errors.EncodeError.{EncodeError}
 use Rattle.words.specs.declared.errors.EncodeError.the-variants.{NoSuchForm, FieldRange}
 use Rattle.words.specs.declared.instructions.Instruction.{Instruction}
 use Rattle.words.proofs.Complete.{complete}
-use Rattle.words.proofs.Rows.{narrow, too-wide}
+use Rattle.words.proofs.Fitting.{narrow, too-wide}
 use Rattle.words.proofs.Sound.{sound}
 
 -- two instructions that are read from one word are one

@@ -37,7 +37,7 @@ use Rattle.words.specs.declared.registers.IndexRegister.{IndexRegister}
 use Rattle.words.specs.declared.registers.Register.{Register}
 use Rattle.words.proofs.Fields.{ended, parted}
 use Rattle.words.proofs.Names.{register-code, index-code, condition-code, division-code, operation-code}
-use Rattle.words.proofs.Rows.{Has, none}
+use Rattle.words.proofs.Fitting.{Has, none}
 
 -- what the row r reads from a word of its own is the instruction of that word
 abbrev Sound : Row → Type 0
@@ -200,7 +200,7 @@ sound-halt w i h e = said w Halt i e (word-of w Halt refl refl (omega arith))
 sound-freq : Sound (nth 16)
 sound-freq w i h e = found (division (low w 4)) refl e
   where
-    found : (o : Option Division) → division (low w 4) ≡ o → reading o (λ d. Some (Freq d)) ≡ Some i → WordOf w i
+    found : (o : Option Division) → division (low w 4) ≡ o → mapped Freq o ≡ Some i → WordOf w i
     found None at e = let z : _≡_ {A = ℕ} 0 1 = cc in absurd (omega arith)
     found (Some d) at e = said w (Freq d) i e (word-of w (Freq d) refl refl (let code = division-code (low w 4) d at in omega arith))
 

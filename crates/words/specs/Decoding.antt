@@ -45,11 +45,49 @@ operationIn form n = reading (operation n) (λ op. cond (hasForm op form) (Some 
 abbrev pub stepped : ℕ → IndexRegister → MemoryAddress
 stepped w ix = cond (eqb (bits w 7 1) 0) (PostIncrement ix (low w 7)) (PreDecrement ix (128 - low w 7))
 
--- op:5 in bits 16 to 12, reg:4 in bits 11 to 8
+-- What the rows say of a word that has their prefix. `name:n` is a field of n bits, and `n_` marks an inverted one.
+
+-- 000000 n_data:8 n_addr:8
+abbrev pub storeImmediate : ℕ → Instruction
+storeImmediate w = StoreImmediate (inverted w 8) (invertedBits w 8 8)
+
+-- 000001 1011 reg:4 n_addr:8
+abbrev pub storeDirect : ℕ → Instruction
+storeDirect w = Store (Direct (inverted w 8)) (register (bits w 8 4))
+
+-- 00001011 ix:2 reg:4 offset:8
+abbrev pub storeOffset : ℕ → Instruction
+storeOffset w = Store (Offset (index (bits w 12 2)) (low w 8)) (register (bits w 8 4))
+
+-- 00001101 ix:2 reg:4 m step:7
+abbrev pub storeStepped : ℕ → Instruction
+storeStepped w = Store (stepped w (index (bits w 12 2))) (register (bits w 8 4))
+
+-- 00001110 ix:2 reg:4 and ones
+abbrev pub storeR3 : ℕ → Instruction
+storeR3 w = Store (OffsetR3 (index (bits w 12 2))) (register (bits w 8 4))
+
+-- op:5 in bits 16 to 12 and reg:4 in bits 11 to 8, whatever the address
 abbrev pub aluMemory : ℕ → MemoryAddress → Option Instruction
 aluMemory w source = mapped (λ op. AluMemory op (register (bits w 8 4)) source) (operationIn Memory (bits w 12 5))
 
--- op:4 in bits 15 to 12, reg:4 in bits 11 to 8, n_data:8
+-- 00010 op:5 reg:4 n_addr:8
+abbrev pub aluDirect : ℕ → Option Instruction
+aluDirect w = aluMemory w (Direct (inverted w 8))
+
+-- 00011 op:5 reg:4 111111 ix:2
+abbrev pub aluR3 : ℕ → Option Instruction
+aluR3 w = aluMemory w (OffsetR3 (index (low w 2)))
+
+-- 010 ix:2 op:5 reg:4 m step:7
+abbrev pub aluStepped : ℕ → Option Instruction
+aluStepped w = aluMemory w (stepped w (index (bits w 17 2)))
+
+-- 011 ix:2 op:5 reg:4 offset:8
+abbrev pub aluOffset : ℕ → Option Instruction
+aluOffset w = aluMemory w (Offset (index (bits w 17 2)) (low w 8))
+
+-- 001110 op:4 reg:4 n_data:8
 abbrev pub aluImmediate : ℕ → Option Instruction
 aluImmediate w = mapped (λ op. AluImmediate op (register (bits w 8 4)) (inverted w 8)) (operationIn Immediate (bits w 12 4))
 
@@ -59,9 +97,25 @@ registersOf w op =
     cond (hasForm op OneSource) (Some (AluOneSource op (register (low w 4)) (register (bits w 4 4))))
     (cond (hasForm op TwoSources) (Some (AluTwoSources op (register (low w 4)) (register (bits w 4 4)) (register (bits w 8 4)))) None)
 
--- op:5 in bits 16 to 12, then the registers
+-- 00110 op:5 op2:4 op1:4 res:4
 abbrev pub aluRegisters : ℕ → Option Instruction
 aluRegisters w = reading (operation (bits w 12 5)) (registersOf w)
+
+-- 001011 1011 and eight ones, divn:4
+abbrev pub freq : ℕ → Option Instruction
+freq w = mapped Freq (division (low w 4))
+
+-- 100 cc:3 and ones
+abbrev pub jumpIp : ℕ → Instruction
+jumpIp w = Jump (condition (bits w 16 3)) Ip
+
+-- n_addr:16
+abbrev pub jumpTarget : ℕ → Target
+jumpTarget w = Address (inverted w 16)
+
+-- 110 cc:3 n_addr:16
+abbrev pub jump : ℕ → Instruction
+jump w = Jump (condition (bits w 16 3)) (jumpTarget w)
 
 -- A row of the table fixes the bits from bit `low` up to the number `prefix`, and says which instruction such a word is,
 -- or none where a code in it names nothing or the form lacks the operation.
@@ -73,59 +127,34 @@ pub record Row : Type 0 where
 abbrev row : ℕ → ℕ → (ℕ → Option Instruction) → Row
 row l p m = record { low = l; prefix = p; meaning = m }
 
--- The rows, highest word first. In a name of a field `n_` marks an inverted one.
+-- The rows, highest word first, each with the bits that its prefix fixes.
 abbrev pub rows : List Row
 rows =
-    -- all ones
-    row 0 0x3FFFFF (λ w. Some Nop)
-    -- 111111 0011 and ones
-    ∷ row 0 0x3F3FFF (λ w. Some Ret)
-    -- 111111 0001 and ones
-    ∷ row 0 0x3F1FFF (λ w. Some Reti)
-    -- 111110 1011 and ones
-    ∷ row 0 0x3EBFFF (λ w. Some Pop)
-    -- 111010 n_addr:16
-    ∷ row 16 0b111010 (λ w. Some (Calls (Address (inverted w 16))))
-    -- 111001 n_addr:16
-    ∷ row 16 0b111001 (λ w. Some (Call (Address (inverted w 16))))
-    -- 110 cc:3 n_addr:16
-    ∷ row 19 0b110 (λ w. Some (Jump (condition (bits w 16 3)) (Address (inverted w 16))))
-    -- 101101 and ones
-    ∷ row 0 0x2DFFFF (λ w. Some Push)
-    -- 101010 and ones
-    ∷ row 0 0x2AFFFF (λ w. Some (Calls Ip))
-    -- 101001 and ones
-    ∷ row 0 0x29FFFF (λ w. Some (Call Ip))
-    -- 100 cc:3 and ones
-    ∷ row 19 0b100 (λ w. given (ones (low w 16) 16) (Some (Jump (condition (bits w 16 3)) Ip)))
-    -- 011 ix:2 op:5 reg:4 offset:8
-    ∷ row 19 0b011 (λ w. aluMemory w (Offset (index (bits w 17 2)) (low w 8)))
-    -- 010 ix:2 op:5 reg:4 m step:7
-    ∷ row 19 0b010 (λ w. aluMemory w (stepped w (index (bits w 17 2))))
-    -- 001110 op:4 reg:4 n_data:8
+    row 0 0b1111111111111111111111 (λ w. Some Nop)
+    ∷ row 0 0b1111110011111111111111 (λ w. Some Ret)
+    ∷ row 0 0b1111110001111111111111 (λ w. Some Reti)
+    ∷ row 0 0b1111101011111111111111 (λ w. Some Pop)
+    ∷ row 16 0b111010 (λ w. Some (Calls (jumpTarget w)))
+    ∷ row 16 0b111001 (λ w. Some (Call (jumpTarget w)))
+    ∷ row 19 0b110 (λ w. Some (jump w))
+    ∷ row 0 0b1011011111111111111111 (λ w. Some Push)
+    ∷ row 0 0b1010101111111111111111 (λ w. Some (Calls Ip))
+    ∷ row 0 0b1010011111111111111111 (λ w. Some (Call Ip))
+    ∷ row 19 0b100 (λ w. given (ones (low w 16) 16) (Some (jumpIp w)))
+    ∷ row 19 0b011 aluOffset
+    ∷ row 19 0b010 aluStepped
     ∷ row 16 0b001110 aluImmediate
-    -- 00110 op:5 op2:4 op1:4 res:4
     ∷ row 17 0b00110 aluRegisters
-    -- 001011 1101 and ones
-    ∷ row 0 0x0BDFFF (λ w. Some Halt)
-    -- 001011 1011 and eight ones, divn:4
-    ∷ row 4 0x0BBFF (λ w. reading (division (low w 4)) (λ d. Some (Freq d)))
-    -- 001011 0111 and ones
-    ∷ row 0 0x0B7FFF (λ w. Some Sflag)
-    -- 00011 op:5 reg:4 111111 ix:2
-    ∷ row 17 0b00011 (λ w. given (ones (bits w 2 6) 6) (aluMemory w (OffsetR3 (index (low w 2)))))
-    -- 00010 op:5 reg:4 n_addr:8
-    ∷ row 17 0b00010 (λ w. aluMemory w (Direct (inverted w 8)))
-    -- 00001110 ix:2 reg:4 and ones
-    ∷ row 14 0b00001110 (λ w. given (ones (low w 8) 8) (Some (Store (OffsetR3 (index (bits w 12 2))) (register (bits w 8 4)))))
-    -- 00001101 ix:2 reg:4 m step:7
-    ∷ row 14 0b00001101 (λ w. Some (Store (stepped w (index (bits w 12 2))) (register (bits w 8 4))))
-    -- 00001011 ix:2 reg:4 offset:8
-    ∷ row 14 0b00001011 (λ w. Some (Store (Offset (index (bits w 12 2)) (low w 8)) (register (bits w 8 4))))
-    -- 000001 1011 reg:4 n_addr:8
-    ∷ row 12 0b0000011011 (λ w. Some (Store (Direct (inverted w 8)) (register (bits w 8 4))))
-    -- 000000 n_data:8 n_addr:8
-    ∷ row 16 0b000000 (λ w. Some (StoreImmediate (inverted w 8) (invertedBits w 8 8)))
+    ∷ row 0 0b0010111101111111111111 (λ w. Some Halt)
+    ∷ row 4 0b001011101111111111 freq
+    ∷ row 0 0b0010110111111111111111 (λ w. Some Sflag)
+    ∷ row 17 0b00011 (λ w. given (ones (bits w 2 6) 6) (aluR3 w))
+    ∷ row 17 0b00010 aluDirect
+    ∷ row 14 0b00001110 (λ w. given (ones (low w 8) 8) (Some (storeR3 w)))
+    ∷ row 14 0b00001101 (λ w. Some (storeStepped w))
+    ∷ row 14 0b00001011 (λ w. Some (storeOffset w))
+    ∷ row 12 0b0000011011 (λ w. Some (storeDirect w))
+    ∷ row 16 0b000000 (λ w. Some (storeImmediate w))
     ∷ []
 
 abbrev pub fits : Row → ℕ → Bool

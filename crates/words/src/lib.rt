@@ -9,6 +9,7 @@ pub mod examples;
 pub mod instructions;
 pub mod operations;
 pub mod registers;
+mod rows;
 #[cfg(test)]
 mod tests;
 

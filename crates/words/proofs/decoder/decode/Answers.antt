@@ -9,24 +9,23 @@ use borrow.Author.Tests.{clash}
 use lib.Dec.{lit<, lit≤}
 use lib.ListN.{length, getD}
 use Rattle.std.proofs.shelf.Tests.{eq-eqb, ne-eqb, cond-true, cond-false}
-use Rattle.std.specs.Options.{isSome, valueOr, okOr}
+use Rattle.std.specs.Options.{isSome, valueOr, mapped, okOr}
 use Rattle.std.specs.declared.option.Option.{Option}
 use Rattle.std.specs.declared.option.Option.the-variants.{None, Some}
 use Rattle.std.specs.declared.result.Result.{Result}
-use Rattle.std.specs.declared.result.Result.the-variants.{Err}
+use Rattle.std.specs.declared.result.Result.the-variants.{Ok, Err}
 use Rattle.words.specs.Bits.{low, bits}
 use Rattle.words.specs.Codes.{division}
-use Rattle.words.specs.Decoding.{rows, reading, aluMemory, stepped, decoded}
+use Rattle.words.specs.Decoding.{rows, decoded}
 use Rattle.words.specs.Laws.{Reads}
-use Rattle.words.specs.declared.addresses.MemoryAddress.the-variants.{Offset, OffsetR3}
 use Rattle.words.specs.declared.divisions.Division.{Division}
 use Rattle.words.specs.declared.divisions.Division.the-variants.{Undivided}
 use Rattle.words.specs.declared.errors.DecodeError.{DecodeError}
 use Rattle.words.specs.declared.errors.DecodeError.the-variants.{Reserved}
 use Rattle.words.specs.declared.instructions.Instruction.{Instruction}
-use Rattle.words.specs.declared.instructions.Instruction.the-variants.{Freq}
+use Rattle.words.specs.declared.instructions.Instruction.the-variants.{Call, Calls, Freq}
 use Rattle.words.proofs.Laws.{reads}
-use Rattle.words.proofs.Rows.{Has, none, Avoids, gaps, at-row, reserved-between, too-wide}
+use Rattle.words.proofs.Fitting.{Has, none, Avoids, gaps, at-row, reserved-between, too-wide}
 use Rattle.words.proofs.decoder.decode.Needs as need
 
 -- row k fits w, and what it says is what was answered
@@ -37,11 +36,11 @@ row k lt w r h e = reads w r (sym (at-row k lt w h ∙ e))
 gap : (a : ℕ) (ss : List ℕ) (b w : ℕ) → gaps a ss b ≡ true → b ≤ 2 ^ 22 → a ≤ w → w < b → Avoids w ss → (_≡_ {A = Result Instruction DecodeError} (Err Reserved) (decoded w)) × Reads w (Err Reserved)
 gap a ss b w c top lo hi avoids = reads w (Err Reserved) (sym (reserved-between a ss b w c top lo hi avoids))
 
-defined : (d : Option Division) → isSome d ≡ true → reading d (λ x. Some (Freq x)) ≡ Some (Freq (valueOr d Undivided))
+defined : (d : Option Division) → isSome d ≡ true → mapped Freq d ≡ Some (Freq (valueOr d Undivided))
 defined None e = absurd (clash e)
 defined (Some d) e = refl
 
-undefined : (d : Option Division) → isSome d ≡ false → reading d (λ x. Some (Freq x)) ≡ None
+undefined : (d : Option Division) → isSome d ≡ false → mapped Freq d ≡ None
 undefined None e = refl
 undefined (Some d) e = absurd (clash (sym e))
 
@@ -73,52 +72,52 @@ pub returns-in-4194303 : need.returns-in-4194303
 returns-in-4194303 c = row 0 (lit< tt) (c .args .word) _ (omega arith) refl
 
 pub returns-in-0-to-65535 : need.returns-in-0-to-65535
-returns-in-0-to-65535 c = row 24 (lit< tt) (c .args .word) _ (omega arith) refl
+returns-in-0-to-65535 c = row 24 (lit< tt) (c .args .word) _ (omega arith) (ap Ok (sym (c .store-immediate .ensures)))
 
 pub returns-in-110592-to-114687 : need.returns-in-110592-to-114687
-returns-in-110592-to-114687 c = row 23 (lit< tt) (c .args .word) _ (omega arith) (cc)
+returns-in-110592-to-114687 c = row 23 (lit< tt) (c .args .word) _ (omega arith) (ap Ok (sym (c .store-direct .ensures)))
 
 pub returns-in-180224-to-196607 : need.returns-in-180224-to-196607
-returns-in-180224-to-196607 c = row 22 (lit< tt) (c .args .word) _ (omega arith) (cc)
+returns-in-180224-to-196607 c = row 22 (lit< tt) (c .args .word) _ (omega arith) (ap Ok (sym (c .store-offset .ensures)))
 
 pub returns-in-212992-to-229375 : need.returns-in-212992-to-229375
-returns-in-212992-to-229375 c = row 21 (lit< tt) (c .args .word) _ (omega arith) (cc)
+returns-in-212992-to-229375 c = row 21 (lit< tt) (c .args .word) _ (omega arith) (ap Ok (sym (c .store-stepped .ensures)))
 
 pub returns-in-229376-to-245759 : need.returns-in-229376-to-245759
-returns-in-229376-to-245759 c = row 20 (lit< tt) (c .args .word) _ (omega arith) (ap (λ o. okOr o Reserved) (cond-true _ _ _ (eq-eqb (low (c .args .word) 8) 0xFF (omega arith))) ∙ simp (c .of-code-register .ensures, c .of-code-index-in-229376-to-245759 .ensures) refl)
+returns-in-229376-to-245759 c = row 20 (lit< tt) (c .args .word) _ (omega arith) (ap (λ o. okOr o Reserved) (cond-true _ _ _ (eq-eqb (low (c .args .word) 8) 0xFF (omega arith))) ∙ ap Ok (sym (c .store-r3 .ensures)))
 
 pub returns-in-262144-to-393215 : need.returns-in-262144-to-393215
-returns-in-262144-to-393215 c = row 19 (lit< tt) (c .args .word) _ (omega arith) (cc)
+returns-in-262144-to-393215 c = row 19 (lit< tt) (c .args .word) _ (omega arith) (sym (c .alu-direct .ensures))
 
 pub returns-in-393216-to-524287 : need.returns-in-393216-to-524287
-returns-in-393216-to-524287 c = row 18 (lit< tt) (c .args .word) _ (omega arith) (ap (λ o. okOr o Reserved) (cond-true _ _ _ (eq-eqb (bits (c .args .word) 2 6) 0b111111 (omega arith))) ∙ sym (c .alu-memory-in-393216-to-524287 .ensures ∙ ap (λ ix. okOr (aluMemory (c .args .word) (OffsetR3 ix)) Reserved) (c .of-code-index-in-393216-to-524287 .ensures)))
+returns-in-393216-to-524287 c = row 18 (lit< tt) (c .args .word) _ (omega arith) (ap (λ o. okOr o Reserved) (cond-true _ _ _ (eq-eqb (bits (c .args .word) 2 6) 0b111111 (omega arith))) ∙ sym (c .alu-r3 .ensures))
 
 pub returns-in-770032-to-770047 : need.returns-in-770032-to-770047
-returns-in-770032-to-770047 c = row 16 (lit< tt) (c .args .word) _ (omega arith) (ap (λ o. okOr o Reserved) (defined (division (low (c .args .word) 4)) (sym (c .is-code .ensures) ∙ c .if-is-code .taken)) ∙ simp (c .of-code .ensures) refl)
+returns-in-770032-to-770047 c = row 16 (lit< tt) (c .args .word) _ (omega arith) (ap (λ o. okOr o Reserved) (defined (division (low (c .args .word) 4)) (sym (c .is-code .ensures) ∙ c .if-is-code .taken)) ∙ ap (λ d. Ok (Freq d)) (sym (c .of-code .ensures)))
 
 pub returns-in-786432-to-917503 : need.returns-in-786432-to-917503
-returns-in-786432-to-917503 c = row 14 (lit< tt) (c .args .word) _ (omega arith) (cc)
+returns-in-786432-to-917503 c = row 14 (lit< tt) (c .args .word) _ (omega arith) (sym (c .alu-registers .ensures))
 
 pub returns-in-917504-to-983039 : need.returns-in-917504-to-983039
-returns-in-917504-to-983039 c = row 13 (lit< tt) (c .args .word) _ (omega arith) (cc)
+returns-in-917504-to-983039 c = row 13 (lit< tt) (c .args .word) _ (omega arith) (sym (c .alu-immediate .ensures))
 
 pub returns-in-1048576-to-1572863 : need.returns-in-1048576-to-1572863
-returns-in-1048576-to-1572863 c = row 12 (lit< tt) (c .args .word) _ (omega arith) (sym (c .alu-memory-in-1048576-to-1572863 .ensures ∙ ap (λ source. okOr (aluMemory (c .args .word) source) Reserved) (c .stepped-address-in-1048576-to-1572863 .ensures ∙ ap (stepped (c .args .word)) (c .of-code-index-in-1048576-to-1572863 .ensures))))
+returns-in-1048576-to-1572863 c = row 12 (lit< tt) (c .args .word) _ (omega arith) (sym (c .alu-stepped .ensures))
 
 pub returns-in-1572864-to-2097151 : need.returns-in-1572864-to-2097151
-returns-in-1572864-to-2097151 c = row 11 (lit< tt) (c .args .word) _ (omega arith) (sym (c .alu-memory-in-1572864-to-2097151 .ensures ∙ ap (λ ix. okOr (aluMemory (c .args .word) (Offset ix (low (c .args .word) 8))) Reserved) (c .of-code-index-in-1572864-to-2097151 .ensures)))
+returns-in-1572864-to-2097151 c = row 11 (lit< tt) (c .args .word) _ (omega arith) (sym (c .alu-offset .ensures))
 
 pub returns-in-2097152-to-2621439 : need.returns-in-2097152-to-2621439
-returns-in-2097152-to-2621439 c = row 10 (lit< tt) (c .args .word) _ (omega arith) (ap (λ o. okOr o Reserved) (cond-true _ _ _ (eq-eqb (low (c .args .word) 16) 0xFFFF (omega arith))) ∙ simp (c .of-code-condition .ensures) refl)
+returns-in-2097152-to-2621439 c = row 10 (lit< tt) (c .args .word) _ (omega arith) (ap (λ o. okOr o Reserved) (cond-true _ _ _ (eq-eqb (low (c .args .word) 16) 0xFFFF (omega arith))) ∙ ap Ok (sym (c .jump-ip .ensures)))
 
 pub returns-in-3145728-to-3670015 : need.returns-in-3145728-to-3670015
-returns-in-3145728-to-3670015 c = row 6 (lit< tt) (c .args .word) _ (omega arith) (cc)
+returns-in-3145728-to-3670015 c = row 6 (lit< tt) (c .args .word) _ (omega arith) (ap Ok (sym (c .jump-to .ensures)))
 
 pub returns-in-3735552-to-3801087 : need.returns-in-3735552-to-3801087
-returns-in-3735552-to-3801087 c = row 5 (lit< tt) (c .args .word) _ (omega arith) (cc)
+returns-in-3735552-to-3801087 c = row 5 (lit< tt) (c .args .word) _ (omega arith) (ap (λ t. Ok (Call t)) (sym (c .jump-target .ensures)))
 
 pub returns-in-3801088-to-3866623 : need.returns-in-3801088-to-3866623
-returns-in-3801088-to-3866623 c = row 4 (lit< tt) (c .args .word) _ (omega arith) (cc)
+returns-in-3801088-to-3866623 c = row 4 (lit< tt) (c .args .word) _ (omega arith) (ap (λ t. Ok (Calls t)) (sym (c .jump-target-in-3801088-to-3866623 .ensures)))
 
 pub returns-in-rest : need.returns-in-rest
 returns-in-rest c = reads _ _ (sym (too-wide (c .args .word) (omega arith)))
