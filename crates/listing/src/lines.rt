@@ -1,5 +1,4 @@
 // The lines of a listing.
-use crate::endings::Ending;
 use crate::endings::EndingDisplay;
 use crate::images::ending;
 use crate::images::word_at;

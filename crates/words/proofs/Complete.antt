@@ -1,33 +1,28 @@
 -- A word that fits the row of an instruction is read as that instruction.
 -- Assumes nothing.
-use mathlib.Core.Bool.{Bool, true, false, cond, _&&_}
-use mathlib.Core.Path.{_≡_, refl, sym, ap, _∙_}
-use Prim.Native.Nat.{ℕ, _+_, _-_, _*_, _/_, _%_, _^_, _≤_, _<_}
+use mathlib.Core.Bool.{true, false, cond}
+use mathlib.Core.Path.{_≡_, refl, ap, _∙_}
+use Prim.Native.Nat.{ℕ, _+_, _-_, _*_, _^_, _≤_, _<_}
 use native.Mathlib.Omega.{arith}
 use borrow.Author.Tests.{clash}
-use lib.Dec.{leb, ltb, eqb, lit<}
+use lib.Dec.{leb, ltb, lit<}
 use lib.ListN.{length, getD}
 use Rattle.std.proofs.shelf.Tests.{ltb-true, leb-true, eq-eqb, ne-eqb, and-parts, cond-true, cond-false}
 use Rattle.std.specs.Options.{mapped, okOr}
-use Rattle.std.specs.declared.option.Option.{Option}
 use Rattle.std.specs.declared.option.Option.the-variants.{None, Some}
-use Rattle.std.specs.declared.result.Result.{Result}
-use Rattle.std.specs.declared.result.Result.the-variants.{Ok, Err}
+use Rattle.std.specs.declared.result.Result.the-variants.{Ok}
 use Rattle.words.specs.Bits.{low, bits, inverted, invertedBits}
-use Rattle.words.specs.Codes.{registerCode, register, indexCode, index, conditionCode, condition, divisionCode, division, operationCode, operation}
-use Rattle.words.specs.Decoding.{Row, first, rows, reading, operationIn, aluMemory, aluImmediate, registersOf, aluRegisters, stepped, decoded}
-use Rattle.words.specs.Encoding.{formed, fieldsFit, addressFits, targetFits, wordWith, aluMemoryWord, aluFields, storeWord}
+use Rattle.words.specs.Codes.{registerCode, register, indexCode, index, conditionCode, condition, divisionCode, operationCode}
+use Rattle.words.specs.Decoding.{rows, reading, operationIn, aluMemory, registersOf, stepped, decoded}
+use Rattle.words.specs.Encoding.{aluFields}
 use Rattle.words.specs.Forms.{Kind, move, unary, binary, mask, kind, inForm, hasForm}
 use Rattle.words.specs.Laws.{WordOf}
 use Rattle.words.specs.declared.addresses.MemoryAddress.{MemoryAddress}
 use Rattle.words.specs.declared.addresses.MemoryAddress.the-variants.{Direct, Offset, OffsetR3, PostIncrement, PreDecrement}
 use Rattle.words.specs.declared.conditions.Condition.{Condition}
-use Rattle.words.specs.declared.divisions.Division.{Division}
-use Rattle.words.specs.declared.errors.DecodeError.{DecodeError}
-use Rattle.words.specs.declared.errors.DecodeError.the-variants.{Reserved, TooWide}
+use Rattle.words.specs.declared.errors.DecodeError.the-variants.{Reserved}
 use Rattle.words.specs.declared.instructions.Instruction.{Instruction}
 use Rattle.words.specs.declared.instructions.Instruction.the-variants.{Nop, Halt, Sflag, Freq, Push, Pop, Ret, Reti, Jump, Call, Calls, AluMemory, AluImmediate, AluOneSource, AluTwoSources, Store, StoreImmediate}
-use Rattle.words.specs.declared.instructions.Target.{Target}
 use Rattle.words.specs.declared.instructions.Target.the-variants.{Address, Ip}
 use Rattle.words.specs.declared.operations.Form.{Form}
 use Rattle.words.specs.declared.operations.Form.the-variants.{Memory, Immediate, OneSource, TwoSources}

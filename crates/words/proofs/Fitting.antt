@@ -1,13 +1,13 @@
 -- The rows of the table lie apart, so the one row that fits a word says what it means.
 -- Assumes nothing.
-use mathlib.Core.Bool.{Bool, true, false, cond, _&&_, _||_}
+use mathlib.Core.Bool.{Bool, true, _&&_, _||_}
 use mathlib.Core.List.{List, [], _∷_}
-use mathlib.Core.Logic.{_⊎_, inl, inr, ⊎-elim}
-use mathlib.Core.Path.{_≡_, refl, sym, _∙_, ap, subst}
+use mathlib.Core.Logic.{⊎-elim}
+use mathlib.Core.Path.{_≡_, refl, _∙_, ap}
 use Prim.Native.Nat.{ℕ, zero, suc, _+_, _*_, _/_, _^_, _≤_, _<_}
 use native.Mathlib.Nat.{add-mul, le-of-suc-le-suc, not-suc-le-zero, div-lt-iff-lt-mul, le-div-iff-mul-le}
 use native.Mathlib.Omega.{arith}
-use lib.Dec.{T, eqb, leb}
+use lib.Dec.{leb}
 use lib.ListN.{length, getD}
 use lib.Pow.{pow-pos}
 use Rattle.std.proofs.shelf.Tests.{leb-true, eq-eqb, ne-eqb, lt-leb, cond-true, cond-false, and-parts, or-cases, cases-order, le-leb}
@@ -15,10 +15,7 @@ use Rattle.std.specs.Options.{okOr}
 use Rattle.std.specs.declared.option.Option.the-variants.{None}
 use Rattle.std.specs.declared.result.Result.the-variants.{Err}
 use Rattle.words.specs.Decoding.{Row, fits, first, rows, decoded}
-use Rattle.words.specs.declared.errors.DecodeError.{DecodeError}
 use Rattle.words.specs.declared.errors.DecodeError.the-variants.{Reserved, TooWide}
-use Rattle.words.specs.declared.instructions.Instruction.{Instruction}
-use Rattle.words.specs.declared.instructions.Instruction.the-variants.{Nop}
 
 -- where the words of a row begin and end
 abbrev from : Row → ℕ

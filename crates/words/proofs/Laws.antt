@@ -29,6 +29,11 @@ use Rattle.words.proofs.Sound.{sound}
 same-read : (i j : Instruction) → _≡_ {A = Result Instruction DecodeError} (Ok i) (Ok j) → i ≡ j
 same-read i j e = cc
 
+-- the number of a refusal
+abbrev number : Option (ℕ × ℕ) → ℕ
+number None = 0
+number (Some log) = log .0
+
 module _ (w : ℕ) where
   -- below 2 ^ 22 a number is an instruction or reserved, and no row is at odds with that
   reserved-from : w < 2 ^ 22 → NoRow w → decoded w ≡ Err Reserved
@@ -63,14 +68,14 @@ module _ (w : ℕ) where
       never None e = let z : _≡_ {A = ℕ} 0 1 = cc in omega arith
       never (Some i) e = let z : _≡_ {A = ℕ} 0 1 = cc in omega arith
 
-  refused-25 : (r : Result Instruction DecodeError) → decodeRefusal r ≡ Some 25 → r ≡ Err Reserved
+  refused-25 : (r : Result Instruction DecodeError) → decodeRefusal r ≡ Some (25, 0) → r ≡ Err Reserved
   refused-25 (Ok i) e = let z : _≡_ {A = ℕ} 0 1 = cc in absurd (omega arith)
   refused-25 (Err Reserved) e = refl
-  refused-25 (Err TooWide) e = let z : _≡_ {A = ℕ} 30 25 = cc in absurd (omega arith)
+  refused-25 (Err TooWide) e = let z : _≡_ {A = ℕ} 30 25 = ap number e in absurd (omega arith)
 
-  refused-30 : (r : Result Instruction DecodeError) → decodeRefusal r ≡ Some 30 → r ≡ Err TooWide
+  refused-30 : (r : Result Instruction DecodeError) → decodeRefusal r ≡ Some (30, 0) → r ≡ Err TooWide
   refused-30 (Ok i) e = let z : _≡_ {A = ℕ} 0 1 = cc in absurd (omega arith)
-  refused-30 (Err Reserved) e = let z : _≡_ {A = ℕ} 25 30 = cc in absurd (omega arith)
+  refused-30 (Err Reserved) e = let z : _≡_ {A = ℕ} 25 30 = ap number e in absurd (omega arith)
   refused-30 (Err TooWide) e = refl
 
   decoded-reads : Reads w (decoded w)
@@ -93,15 +98,15 @@ answered true true v w e = (refl, refl, cc)
 answered true false v w e = let z : _≡_ {A = ℕ} 0 1 = cc in absurd (omega arith)
 answered false fit v w e = let z : _≡_ {A = ℕ} 0 1 = cc in absurd (omega arith)
 
-answered-31 : (form fit : Bool) (v : ℕ) → (encodeRefusal (answer form fit v) ≡ Some 31) ↔ (form ≡ false)
+answered-31 : (form fit : Bool) (v : ℕ) → (encodeRefusal (answer form fit v) ≡ Some (31, 0)) ↔ (form ≡ false)
 answered-31 true true v = (λ e. let z : _≡_ {A = ℕ} 0 1 = cc in absurd (omega arith), λ h. absurd (clash (sym h)))
-answered-31 true false v = (λ e. let z : _≡_ {A = ℕ} 32 31 = cc in absurd (omega arith), λ h. absurd (clash (sym h)))
+answered-31 true false v = (λ e. let z : _≡_ {A = ℕ} 32 31 = ap number e in absurd (omega arith), λ h. absurd (clash (sym h)))
 answered-31 false fit v = (λ e. refl, λ h. refl)
 
-answered-32 : (form fit : Bool) (v : ℕ) → (encodeRefusal (answer form fit v) ≡ Some 32) ↔ ((form ≡ true) × (fit ≡ false))
+answered-32 : (form fit : Bool) (v : ℕ) → (encodeRefusal (answer form fit v) ≡ Some (32, 0)) ↔ ((form ≡ true) × (fit ≡ false))
 answered-32 true true v = (λ e. let z : _≡_ {A = ℕ} 0 1 = cc in absurd (omega arith), λ h. absurd (clash (sym (h .1))))
 answered-32 true false v = (λ e. (refl, refl), λ h. refl)
-answered-32 false fit v = (λ e. let z : _≡_ {A = ℕ} 31 32 = cc in absurd (omega arith), λ h. absurd (clash (h .0)))
+answered-32 false fit v = (λ e. let z : _≡_ {A = ℕ} 31 32 = ap number e in absurd (omega arith), λ h. absurd (clash (h .0)))
 
 encoded-word : (i : Instruction) (w : ℕ) → encoded i ≡ Ok w → WordOf w i
 unfolding encoded

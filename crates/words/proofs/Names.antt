@@ -3,7 +3,7 @@
 use mathlib.Core.Bool.{Bool, true, false, cond, _&&_}
 use mathlib.Core.List.{List, [], _∷_}
 use mathlib.Core.Logic.{⊎-elim}
-use mathlib.Core.Path.{_≡_, refl, sym, ap, _∙_}
+use mathlib.Core.Path.{_≡_, refl, ap, _∙_}
 use Prim.Native.Nat.{ℕ, zero, suc, _<_}
 use native.Mathlib.Nat.{not-suc-le-zero}
 use native.Mathlib.Omega.{arith}
@@ -11,7 +11,7 @@ use borrow.Author.Tests.{clash}
 use lib.Dec.{eqb, lit<}
 use Rattle.std.proofs.shelf.Tests.{eqb-true, and-parts, cases-order}
 use Rattle.std.specs.declared.option.Option.{Option}
-use Rattle.std.specs.declared.option.Option.the-variants.{None, Some}
+use Rattle.std.specs.declared.option.Option.the-variants.{Some}
 use Rattle.words.specs.Codes.{find, registerCode, register, indexCode, index, conditionCode, condition, divisionCode, division, divisions, operationCode, operation, operations}
 use Rattle.words.specs.declared.conditions.Condition.{Condition}
 use Rattle.words.specs.declared.conditions.Condition.the-variants.{CarryClear, OverflowClear, ZeroClear, Always, CarrySet, OverflowSet, ZeroSet, Event}

@@ -14,7 +14,6 @@ use Rattle.words.specs.Codes.{register, index, condition, division, operation}
 use Rattle.words.specs.Forms.{hasForm}
 use Rattle.words.specs.declared.addresses.MemoryAddress.{MemoryAddress}
 use Rattle.words.specs.declared.addresses.MemoryAddress.the-variants.{Direct, Offset, OffsetR3, PostIncrement, PreDecrement}
-use Rattle.words.specs.declared.divisions.Division.{Division}
 use Rattle.words.specs.declared.errors.DecodeError.{DecodeError}
 use Rattle.words.specs.declared.errors.DecodeError.the-variants.{Reserved, TooWide}
 use Rattle.words.specs.declared.instructions.Instruction.{Instruction}
@@ -25,7 +24,6 @@ use Rattle.words.specs.declared.operations.Form.{Form}
 use Rattle.words.specs.declared.operations.Form.the-variants.{Memory, Immediate, OneSource, TwoSources}
 use Rattle.words.specs.declared.operations.Operation.{Operation}
 use Rattle.words.specs.declared.registers.IndexRegister.{IndexRegister}
-use Rattle.words.specs.declared.registers.Register.{Register}
 
 -- what is read of a code, unless it names nothing
 abbrev pub reading : {X Y : Type 0} → Option X → (X → Option Y) → Option Y

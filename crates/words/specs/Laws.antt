@@ -10,7 +10,7 @@ use Rattle.std.specs.declared.result.Result.{Result}
 use Rattle.std.specs.declared.result.Result.the-variants.{Ok, Err}
 use Rattle.words.specs.Decoding.{decoded}
 use Rattle.words.specs.Encoding.{formed, fieldsFit, wordWith, encoded}
-use Rattle.words.specs.Refusals.{decodeNumber, encodeNumber}
+use Rattle.words.specs.Refusals.{decodeLog, encodeLog}
 use Rattle.words.specs.declared.errors.DecodeError.{DecodeError}
 use Rattle.words.specs.declared.errors.EncodeError.{EncodeError}
 use Rattle.words.specs.declared.instructions.Instruction.{Instruction}
@@ -28,14 +28,14 @@ pub record WordOf (w : ℕ) (i : Instruction) : Type 0 where
 abbrev pub NoRow : ℕ → Type 0
 NoRow w = (i : Instruction) → WordOf w i → ⊥
 
--- the log number of a refusal, if it is one
-abbrev pub decodeRefusal : Result Instruction DecodeError → Option ℕ
+-- the log number and the place of an answer that is a refusal
+abbrev pub decodeRefusal : Result Instruction DecodeError → Option (ℕ × ℕ)
 decodeRefusal (Ok i) = None
-decodeRefusal (Err e) = Some (decodeNumber e)
+decodeRefusal (Err e) = Some (decodeLog e)
 
-abbrev pub encodeRefusal : Result ℕ EncodeError → Option ℕ
+abbrev pub encodeRefusal : Result ℕ EncodeError → Option (ℕ × ℕ)
 encodeRefusal (Ok w) = None
-encodeRefusal (Err e) = Some (encodeNumber e)
+encodeRefusal (Err e) = Some (encodeLog e)
 
 -- what r says of the number w when it is read
 pub record Reads (w : ℕ) (r : Result Instruction DecodeError) : Type 0 where
@@ -44,8 +44,8 @@ pub record Reads (w : ℕ) (r : Result Instruction DecodeError) : Type 0 where
   -- a word has at most one instruction
   pub one : (i j : Instruction) → WordOf w i → WordOf w j → i ≡ j
   -- it refuses with 25 exactly the words that no row fits, and with 30 exactly the numbers that are no words
-  pub reserved : (decodeRefusal r ≡ Some 25) ↔ ((w < 2 ^ 22) × NoRow w)
-  pub wide : (decodeRefusal r ≡ Some 30) ↔ (2 ^ 22 ≤ w)
+  pub reserved : (decodeRefusal r ≡ Some (25, 0)) ↔ ((w < 2 ^ 22) × NoRow w)
+  pub wide : (decodeRefusal r ≡ Some (30, 0)) ↔ (2 ^ 22 ≤ w)
 
 -- what r says of the instruction i when it is written
 pub record Writes (i : Instruction) (r : Result ℕ EncodeError) : Type 0 where
@@ -54,5 +54,5 @@ pub record Writes (i : Instruction) (r : Result ℕ EncodeError) : Type 0 where
   -- no other instruction is written as that word
   pub one : (w : ℕ) (j : Instruction) → r ≡ Ok w → encoded j ≡ Ok w → j ≡ i
   -- it refuses with 31 exactly where the form lacks the operation, and else with 32 where a number does not fit
-  pub no-form : (encodeRefusal r ≡ Some 31) ↔ (formed i ≡ false)
-  pub field : (encodeRefusal r ≡ Some 32) ↔ ((formed i ≡ true) × (fieldsFit i ≡ false))
+  pub no-form : (encodeRefusal r ≡ Some (31, 0)) ↔ (formed i ≡ false)
+  pub field : (encodeRefusal r ≡ Some (32, 0)) ↔ ((formed i ≡ true) × (fieldsFit i ≡ false))

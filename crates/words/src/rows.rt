@@ -1,8 +1,7 @@
 // What each row of the table of words says of a word that it has. `name:n` is a field of n bits, and `n_` marks one that is
 // held inverted.
 ghost use mathlib.Core.Path.{_≡_};
-ghost use Rattle.std.specs.Options.{okOr, valueOr};
-ghost use Rattle.words.specs.Codes.{division};
+ghost use Rattle.std.specs.Options.{okOr};
 ghost use Rattle.words.specs.Decoding.{operationIn, stepped, storeImmediate, storeDirect, storeOffset, storeStepped, storeR3, aluMemory, aluDirect, aluR3, aluStepped, aluOffset, aluImmediate, aluRegisters, jumpIp, jumpTarget, jump};
 ghost use Rattle.words.specs.declared.errors.DecodeError.the-variants.{Reserved};
 use crate::addresses::MemoryAddress;
@@ -38,7 +37,7 @@ fn stepped_address(word: u32, index: IndexRegister) -> MemoryAddress
 }
 
 // 000000 n_data:8 n_addr:8
-pub fn store_immediate(word: u32) -> Instruction
+pub(crate) fn store_immediate(word: u32) -> Instruction
     ensures { λ r. ⌜ r ≡ storeImmediate word ⌝ }
 {
     Instruction::StoreImmediate {
@@ -48,7 +47,7 @@ pub fn store_immediate(word: u32) -> Instruction
 }
 
 // 000001 1011 reg:4 n_addr:8
-pub fn store_direct(word: u32) -> Instruction
+pub(crate) fn store_direct(word: u32) -> Instruction
     ensures { λ r. ⌜ r ≡ storeDirect word ⌝ }
 {
     Instruction::Store {
@@ -58,7 +57,7 @@ pub fn store_direct(word: u32) -> Instruction
 }
 
 // 00001011 ix:2 reg:4 offset:8
-pub fn store_offset(word: u32) -> Instruction
+pub(crate) fn store_offset(word: u32) -> Instruction
     ensures { λ r. ⌜ r ≡ storeOffset word ⌝ }
 {
     let index = IndexRegister::of_code(word / 0x1000 % 4);
@@ -69,7 +68,7 @@ pub fn store_offset(word: u32) -> Instruction
 }
 
 // 00001101 ix:2 reg:4 m step:7
-pub fn store_stepped(word: u32) -> Instruction
+pub(crate) fn store_stepped(word: u32) -> Instruction
     ensures { λ r. ⌜ r ≡ storeStepped word ⌝ }
 {
     let index = IndexRegister::of_code(word / 0x1000 % 4);
@@ -80,7 +79,7 @@ pub fn store_stepped(word: u32) -> Instruction
 }
 
 // 00001110 ix:2 reg:4 and ones
-pub fn store_r3(word: u32) -> Instruction
+pub(crate) fn store_r3(word: u32) -> Instruction
     ensures { λ r. ⌜ r ≡ storeR3 word ⌝ }
 {
     let index = IndexRegister::of_code(word / 0x1000 % 4);
@@ -106,14 +105,14 @@ fn alu_memory(word: u32, source: MemoryAddress) -> Result<Instruction, DecodeErr
 }
 
 // 00010 op:5 reg:4 n_addr:8
-pub fn alu_direct(word: u32) -> Result<Instruction, DecodeError>
+pub(crate) fn alu_direct(word: u32) -> Result<Instruction, DecodeError>
     ensures { λ r. ⌜ r ≡ okOr (aluDirect word) Reserved ⌝ }
 {
     alu_memory(word, MemoryAddress::Direct((0xFF - word % 0x100) as u8))
 }
 
 // 00011 op:5 reg:4 111111 ix:2
-pub fn alu_r3(word: u32) -> Result<Instruction, DecodeError>
+pub(crate) fn alu_r3(word: u32) -> Result<Instruction, DecodeError>
     ensures { λ r. ⌜ r ≡ okOr (aluR3 word) Reserved ⌝ }
 {
     let index = IndexRegister::of_code(word % 4);
@@ -121,7 +120,7 @@ pub fn alu_r3(word: u32) -> Result<Instruction, DecodeError>
 }
 
 // 010 ix:2 op:5 reg:4 m step:7
-pub fn alu_stepped(word: u32) -> Result<Instruction, DecodeError>
+pub(crate) fn alu_stepped(word: u32) -> Result<Instruction, DecodeError>
     ensures { λ r. ⌜ r ≡ okOr (aluStepped word) Reserved ⌝ }
 {
     let index = IndexRegister::of_code(word / 0x2_0000 % 4);
@@ -129,7 +128,7 @@ pub fn alu_stepped(word: u32) -> Result<Instruction, DecodeError>
 }
 
 // 011 ix:2 op:5 reg:4 offset:8
-pub fn alu_offset(word: u32) -> Result<Instruction, DecodeError>
+pub(crate) fn alu_offset(word: u32) -> Result<Instruction, DecodeError>
     ensures { λ r. ⌜ r ≡ okOr (aluOffset word) Reserved ⌝ }
 {
     let index = IndexRegister::of_code(word / 0x2_0000 % 4);
@@ -137,7 +136,7 @@ pub fn alu_offset(word: u32) -> Result<Instruction, DecodeError>
 }
 
 // 001110 op:4 reg:4 n_data:8
-pub fn alu_immediate(word: u32) -> Result<Instruction, DecodeError>
+pub(crate) fn alu_immediate(word: u32) -> Result<Instruction, DecodeError>
     ensures { λ r. ⌜ r ≡ okOr (aluImmediate word) Reserved ⌝ }
 {
     let register = Register::of_code(word / 0x100 % 16);
@@ -152,7 +151,7 @@ pub fn alu_immediate(word: u32) -> Result<Instruction, DecodeError>
 }
 
 // 00110 op:5 op2:4 op1:4 res:4, where one source leaves op2 unread
-pub fn alu_registers(word: u32) -> Result<Instruction, DecodeError>
+pub(crate) fn alu_registers(word: u32) -> Result<Instruction, DecodeError>
     ensures { λ r. ⌜ r ≡ okOr (aluRegisters word) Reserved ⌝ }
 {
     let result = Register::of_code(word % 16);
@@ -174,21 +173,21 @@ pub fn alu_registers(word: u32) -> Result<Instruction, DecodeError>
 }
 
 // 100 cc:3 and ones
-pub fn jump_ip(word: u32) -> Instruction
+pub(crate) fn jump_ip(word: u32) -> Instruction
     ensures { λ r. ⌜ r ≡ jumpIp word ⌝ }
 {
     Instruction::Jump(Condition::of_code(word / 0x1_0000 % 8), Target::Ip)
 }
 
 // n_addr:16
-pub fn jump_target(word: u32) -> Target
+pub(crate) fn jump_target(word: u32) -> Target
     ensures { λ r. ⌜ r ≡ jumpTarget word ⌝ }
 {
     Target::Address((0xFFFF - word % 0x1_0000) as u16)
 }
 
 // 110 cc:3 n_addr:16
-pub fn jump_to(word: u32) -> Instruction
+pub(crate) fn jump_to(word: u32) -> Instruction
     ensures { λ r. ⌜ r ≡ jump word ⌝ }
 {
     Instruction::Jump(Condition::of_code(word / 0x1_0000 % 8), jump_target(word))

@@ -1,8 +1,8 @@
-use mathlib.Core.Path.{_≡_, ap, _∙_}
+use mathlib.Core.Path.{ap, _∙_}
 use Prim.Native.Nat.{_+_}
 use native.Mathlib.Numerals.{add-one}
 use native.Mathlib.Omega.{arith}
-use Rattle.listing.specs.Images.{refusals, refusedBelow}
+use Rattle.listing.specs.Images.{refusals}
 use Rattle.listing.proofs.images.refused_words.Needs as need
 
 pub loop-address-again : need.loop-address-again
