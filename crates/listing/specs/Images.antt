@@ -2,6 +2,7 @@
 -- Assumes nothing.
 use mathlib.Core.Bool.{cond}
 use mathlib.Core.List.{List}
+use mathlib.Core.Path.{_≡_}
 use Prim.Native.Nat.{ℕ, zero, suc, _+_, _*_, _/_, _%_, _^_}
 use lib.Dec.{eqb}
 use lib.ListN.{length, getD}
@@ -25,3 +26,7 @@ refusedBelow image (suc n) = refusedBelow image n + refusals (wordAt image n)
 
 abbrev pub endingOf : List ℕ → Ending
 endingOf image = cond (eqb (length image % 3) 0) (Counted (length image / 3) (refusedBelow image (length image / 3))) LeftOver
+
+-- the bytes are no whole number of words
+abbrev pub Uneven : List ℕ → Type 0
+Uneven image = (words : ℕ) → length image ≡ 3 * words → ⊥

@@ -1,8 +1,11 @@
 // A program image: bytes, three to a word, highest byte first.
+ghost use mathlib.Core.Logic.{_↔_};
 ghost use mathlib.Core.Path.{_≡_};
 ghost use Prim.Native.Nat.{_<_, _≤_, _/_, _^_};
 ghost use lib.ListN.{length};
-ghost use Rattle.listing.specs.Images.{wordAt, refusals, refusedBelow, endingOf};
+ghost use Rattle.std.specs.declared.option.Option.the-variants.{Some};
+ghost use Rattle.listing.specs.Images.{wordAt, refusals, refusedBelow, endingOf, Uneven};
+ghost use Rattle.listing.specs.Refusals.{endingRefusal};
 use crate::endings::Ending;
 use words::decode;
 
@@ -47,6 +50,7 @@ pub fn refused_words(image: &[u8]) -> usize
 
 pub fn ending(image: &[u8]) -> Ending
     ensures { λ r. ⌜ r ≡ endingOf (now (image .entry)) ⌝ }
+    ensures { λ r. ⌜ ((endingRefusal r ≡ Some (29, 0)) ↔ Uneven (now (image .entry))) ⌝ }
 {
     if image.len() % 3 != 0 {
         return Ending::LeftOver;

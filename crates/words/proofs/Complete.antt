@@ -8,11 +8,12 @@ use borrow.Author.Tests.{clash}
 use lib.Dec.{leb, ltb, lit<}
 use lib.ListN.{length, getD}
 use Rattle.std.proofs.shelf.Tests.{ltb-true, leb-true, eq-eqb, ne-eqb, and-parts, cond-true, cond-false}
-use Rattle.std.specs.Options.{mapped, okOr}
+use Rattle.std.specs.Options.{valueOr, mapped, okOr}
+use Rattle.std.specs.declared.option.Option.{Option}
 use Rattle.std.specs.declared.option.Option.the-variants.{None, Some}
 use Rattle.std.specs.declared.result.Result.the-variants.{Ok}
 use Rattle.words.specs.Bits.{low, bits, inverted, invertedBits}
-use Rattle.words.specs.Codes.{registerCode, register, indexCode, index, conditionCode, condition, divisionCode, operationCode}
+use Rattle.words.specs.Codes.{registerCode, register, indexCode, index, conditionCode, condition, operationCode}
 use Rattle.words.specs.Decoding.{rows, reading, operationIn, aluMemory, registersOf, stepped, decoded}
 use Rattle.words.specs.Encoding.{aluFields}
 use Rattle.words.specs.Forms.{Kind, move, unary, binary, mask, kind, inForm, hasForm}
@@ -20,6 +21,7 @@ use Rattle.words.specs.Laws.{WordOf}
 use Rattle.words.specs.declared.addresses.MemoryAddress.{MemoryAddress}
 use Rattle.words.specs.declared.addresses.MemoryAddress.the-variants.{Direct, Offset, OffsetR3, PostIncrement, PreDecrement}
 use Rattle.words.specs.declared.conditions.Condition.{Condition}
+use Rattle.words.specs.declared.conditions.Condition.the-variants.{Event}
 use Rattle.words.specs.declared.errors.DecodeError.the-variants.{Reserved}
 use Rattle.words.specs.declared.instructions.Instruction.{Instruction}
 use Rattle.words.specs.declared.instructions.Instruction.the-variants.{Nop, Halt, Sflag, Freq, Push, Pop, Ret, Reti, Jump, Call, Calls, AluMemory, AluImmediate, AluOneSource, AluTwoSources, Store, StoreImmediate}
@@ -28,33 +30,38 @@ use Rattle.words.specs.declared.operations.Form.{Form}
 use Rattle.words.specs.declared.operations.Form.the-variants.{Memory, Immediate, OneSource, TwoSources}
 use Rattle.words.specs.declared.operations.Operation.{Operation}
 use Rattle.words.specs.declared.registers.IndexRegister.{IndexRegister}
+use Rattle.words.specs.declared.registers.IndexRegister.the-variants.{I3}
 use Rattle.words.specs.declared.registers.Register.{Register}
+use Rattle.words.specs.declared.registers.Register.the-variants.{A}
 use Rattle.words.proofs.Fields.{field, lowest}
-use Rattle.words.proofs.Names.{immediate-below, registerCode-below, register-named, indexCode-below, index-named, conditionCode-below, condition-named, divisionCode-below, division-named, operationCode-below, operation-named}
+use Rattle.words.proofs.Names.{by-register, by-index, by-condition, by-division, by-operation, found, found-at, found-low, immediate-below}
 use Rattle.words.proofs.Fitting.{Has, none, at-row}
 
--- what stands at a place of a sum is read there
+-- a register, an index or a condition that stands at a place of a sum is read there
+named : {X : Type 0} (o : Option X) (d x : X) → o ≡ Some x → valueOr o d ≡ x
+named o d x e = ap (λ v. valueOr v d) e
+
 register-at : (w k p rest : ℕ) (r : Register) → w ≡ (p * 2 ^ 4 + registerCode r) * 2 ^ k + rest → rest < 2 ^ k → register (bits w k 4) ≡ r
-register-at w k p rest r e lt = register-named (bits w k 4) r (field w k 4 p (registerCode r) rest e (registerCode-below r) lt)
+register-at w k p rest r e lt = named _ A r (found-at by-register w k p rest r e lt)
 
 register-low : (w p : ℕ) (r : Register) → w ≡ p * 2 ^ 4 + registerCode r → register (low w 4) ≡ r
-register-low w p r e = register-named (low w 4) r (lowest w 4 p (registerCode r) e (registerCode-below r))
+register-low w p r e = named _ A r (found-low by-register w p r e)
 
 index-at : (w k p rest : ℕ) (ix : IndexRegister) → w ≡ (p * 2 ^ 2 + indexCode ix) * 2 ^ k + rest → rest < 2 ^ k → index (bits w k 2) ≡ ix
-index-at w k p rest ix e lt = index-named (bits w k 2) ix (field w k 2 p (indexCode ix) rest e (indexCode-below ix) lt)
+index-at w k p rest ix e lt = named _ I3 ix (found-at by-index w k p rest ix e lt)
 
 condition-at : (w k p rest : ℕ) (c : Condition) → w ≡ (p * 2 ^ 3 + conditionCode c) * 2 ^ k + rest → rest < 2 ^ k → condition (bits w k 3) ≡ c
-condition-at w k p rest c e lt = condition-named (bits w k 3) c (field w k 3 p (conditionCode c) rest e (conditionCode-below c) lt)
+condition-at w k p rest c e lt = named _ Event c (found-at by-condition w k p rest c e lt)
 
 -- the operation of a word, where the form has it
 operation-read : (form : Form) (n : ℕ) (op : Operation) → hasForm op form ≡ true → n ≡ operationCode op → operationIn form n ≡ Some op
-operation-read form n op has e = ap (λ o. reading o (λ x. cond (hasForm x form) (Some x) None)) (operation-named n op e) ∙ cond-true _ _ _ has
+operation-read form n op has e = ap (λ o. reading o (λ x. cond (hasForm x form) (Some x) None)) (found by-operation n op e) ∙ cond-true _ _ _ has
 
 -- the fields that all ALU operations on memory have, with p above them and rest below
 memory-read : (w p rest : ℕ) (op : Operation) (r : Register) (source read : MemoryAddress) → hasForm op Memory ≡ true → w ≡ p * 2 ^ 17 + aluFields op r + rest → rest < 2 ^ 8 → read ≡ source → aluMemory w read ≡ Some (AluMemory op r source)
 memory-read w p rest op r source read has e lt same =
-    let lo = operationCode-below op in
-    let lr = registerCode-below r in
+    let lo = by-operation .stands op .0 in
+    let lr = by-register .stands r .0 in
     ap (λ o. mapped (λ x. AluMemory x (register (bits w 8 4)) read) o) (operation-read Memory (bits w 12 5) op has (field w 12 5 p (operationCode op) (registerCode r * 2 ^ 8 + rest) (omega arith) lo (omega arith)))
     ∙ (λ t. Some (AluMemory op (register-at w 8 (p * 2 ^ 5 + operationCode op) rest r (omega arith) lt t) (same t)))
 
@@ -88,22 +95,22 @@ complete w Nop h = row-says 0 (lit< tt) w (omega arith) refl
 complete w Halt h = row-says 15 (lit< tt) w (omega arith) refl
 complete w Sflag h = row-says 17 (lit< tt) w (omega arith) refl
 complete w (Freq d) h =
-    let lt = divisionCode-below d in
+    let lt = by-division .stands d .0 in
     row-says 16 (lit< tt) w (omega arith)
-    (ap (mapped Freq) (division-named (low w 4) d (lowest w 4 0x0BBFF (divisionCode d) (omega arith) lt)))
+    (ap (mapped Freq) (found-low by-division w 0x0BBFF d (omega arith)))
 complete w Push h = row-says 7 (lit< tt) w (omega arith) refl
 complete w Pop h = row-says 3 (lit< tt) w (omega arith) refl
 complete w Ret h = row-says 1 (lit< tt) w (omega arith) refl
 complete w Reti h = row-says 2 (lit< tt) w (omega arith) refl
 complete w (Jump c (Address a)) h =
-    let lc = conditionCode-below c in
+    let lc = by-condition .stands c .0 in
     let la = ltb-true a (2 ^ 16) (h .fields) in
     let held = lowest w 16 (0b110000 + conditionCode c) (0xFFFF - a) (omega arith) (omega arith) in
     let back : inverted w 16 ≡ a = omega arith in
     row-says 6 (lit< tt) w (omega arith)
     ((λ t. Some (Jump (condition-at w 16 0b110 (0xFFFF - a) c (omega arith) (omega arith) t) (Address (back t)))))
 complete w (Jump c Ip) h =
-    let lc = conditionCode-below c in
+    let lc = by-condition .stands c .0 in
     row-says 10 (lit< tt) w (omega arith)
     (cond-true _ _ _ (eq-eqb _ _ (lowest w 16 (0b100000 + conditionCode c) 0xFFFF (omega arith) (lit< tt)))
     ∙ ap (λ x. Some (Jump x Ip)) (condition-at w 16 0b100 0xFFFF c (omega arith) (lit< tt)))
@@ -120,43 +127,43 @@ complete w (Calls (Address a)) h =
     (ap (λ x. Some (Calls (Address x))) back)
 complete w (Calls Ip) h = row-says 8 (lit< tt) w (omega arith) refl
 complete w (AluMemory op r (Direct a)) h =
-    let lo = operationCode-below op in
-    let lr = registerCode-below r in
+    let lo = by-operation .stands op .0 in
+    let lr = by-register .stands r .0 in
     let la = ltb-true a (2 ^ 8) (h .fields) in
     let held = lowest w 8 (0b00010 * 2 ^ 9 + operationCode op * 2 ^ 4 + registerCode r) (0xFF - a) (omega arith) (omega arith) in
     let back : inverted w 8 ≡ a = omega arith in
     row-says 19 (lit< tt) w (omega arith)
     (memory-read w 0b00010 (0xFF - a) op r (Direct a) (Direct (inverted w 8)) (h .form) (omega arith) (omega arith) (ap Direct back))
 complete w (AluMemory op r (Offset ix offset)) h =
-    let lo = operationCode-below op in
-    let lr = registerCode-below r in
-    let lx = indexCode-below ix in
+    let lo = by-operation .stands op .0 in
+    let lr = by-register .stands r .0 in
+    let lx = by-index .stands ix .0 in
     let la = ltb-true offset (2 ^ 8) (h .fields) in
     row-says 11 (lit< tt) w (omega arith)
     (memory-read w (0b011 * 2 ^ 2 + indexCode ix) offset op r (Offset ix offset) (Offset (index (bits w 17 2)) (low w 8)) (h .form) (omega arith) la
     (λ t. Offset (index-at w 17 0b011 (aluFields op r + offset) ix (omega arith) (omega arith) t) (lowest w 8 ((0b011 * 2 ^ 2 + indexCode ix) * 2 ^ 9 + operationCode op * 2 ^ 4 + registerCode r) offset (omega arith) la t)))
 complete w (AluMemory op r (OffsetR3 ix)) h =
-    let lo = operationCode-below op in
-    let lr = registerCode-below r in
-    let lx = indexCode-below ix in
+    let lo = by-operation .stands op .0 in
+    let lr = by-register .stands r .0 in
+    let lx = by-index .stands ix .0 in
     let above = 0b00011 * 2 ^ 9 + operationCode op * 2 ^ 4 + registerCode r in
     row-says 18 (lit< tt) w (omega arith)
     (cond-true _ _ _ (eq-eqb _ _ (field w 2 6 above 0b111111 (indexCode ix) (omega arith) (lit< tt) lx))
     ∙ memory-read w 0b00011 (0b111111 * 2 ^ 2 + indexCode ix) op r (OffsetR3 ix) (OffsetR3 (index (low w 2))) (h .form) (omega arith) (omega arith)
-    (ap OffsetR3 (index-named (low w 2) ix (lowest w 2 (above * 2 ^ 6 + 0b111111) (indexCode ix) (omega arith) lx))))
+    (ap OffsetR3 (named _ I3 ix (found-low by-index w (above * 2 ^ 6 + 0b111111) ix (omega arith)))))
 complete w (AluMemory op r (PostIncrement ix step)) h =
-    let lo = operationCode-below op in
-    let lr = registerCode-below r in
-    let lx = indexCode-below ix in
+    let lo = by-operation .stands op .0 in
+    let lr = by-register .stands r .0 in
+    let lx = by-index .stands ix .0 in
     let ls = ltb-true step (2 ^ 7) (h .fields) in
     let above = (0b010 * 2 ^ 2 + indexCode ix) * 2 ^ 9 + operationCode op * 2 ^ 4 + registerCode r in
     row-says 12 (lit< tt) w (omega arith)
     (memory-read w (0b010 * 2 ^ 2 + indexCode ix) step op r (PostIncrement ix step) (stepped w (index (bits w 17 2))) (h .form) (omega arith) (omega arith)
     (stepped-up w above step ix (index (bits w 17 2)) (omega arith) ls (index-at w 17 0b010 (aluFields op r + step) ix (omega arith) (omega arith))))
 complete w (AluMemory op r (PreDecrement ix step)) h =
-    let lo = operationCode-below op in
-    let lr = registerCode-below r in
-    let lx = indexCode-below ix in
+    let lo = by-operation .stands op .0 in
+    let lr = by-register .stands r .0 in
+    let lx = by-index .stands ix .0 in
     let range = and-parts (leb 1 step) (leb step (2 ^ 7)) (h .fields) in
     let one = leb-true 1 step (range .0) in
     let top = leb-true step (2 ^ 7) (range .1) in
@@ -166,7 +173,7 @@ complete w (AluMemory op r (PreDecrement ix step)) h =
     (stepped-down w above step ix (index (bits w 17 2)) (omega arith) one top (index-at w 17 0b010 (aluFields op r + (2 ^ 7 + (2 ^ 7 - step))) ix (omega arith) (omega arith))))
 complete w (AluImmediate op r value) h =
     let lo = immediate-below op (h .form) in
-    let lr = registerCode-below r in
+    let lr = by-register .stands r .0 in
     let lv = ltb-true value (2 ^ 8) (h .fields) in
     let above = 0b001110 * 2 ^ 4 + operationCode op in
     let held = lowest w 8 (above * 2 ^ 4 + registerCode r) (0xFF - value) (omega arith) (omega arith) in
@@ -175,60 +182,60 @@ complete w (AluImmediate op r value) h =
     (ap (λ o. mapped (λ x. AluImmediate x (register (bits w 8 4)) (inverted w 8)) o) (operation-read Immediate (bits w 12 4) op (h .form) (field w 12 4 0b001110 (operationCode op) (registerCode r * 2 ^ 8 + (0xFF - value)) (omega arith) lo (omega arith)))
     ∙ (λ t. Some (AluImmediate op (register-at w 8 above (0xFF - value) r (omega arith) (omega arith) t) (back t))))
 complete w (AluOneSource op result source) h =
-    let lo = operationCode-below op in
-    let lr = registerCode-below result in
-    let ls = registerCode-below source in
+    let lo = by-operation .stands op .0 in
+    let lr = by-register .stands result .0 in
+    let ls = by-register .stands source .0 in
     let u = h .unread in
     let lu : u < 2 ^ 4 = h .four in
     let above = (0b00110 * 2 ^ 5 + operationCode op) * 2 ^ 4 + u in
     row-says 14 (lit< tt) w (omega arith)
-    (ap (λ o. reading o (registersOf w)) (operation-named (bits w 12 5) op (field w 12 5 0b00110 (operationCode op) (u * 2 ^ 8 + registerCode source * 2 ^ 4 + registerCode result) (omega arith) lo (omega arith)))
+    (ap (λ o. reading o (registersOf w)) (found-at by-operation w 12 0b00110 (u * 2 ^ 8 + registerCode source * 2 ^ 4 + registerCode result) op (omega arith) (omega arith))
     ∙ cond-true _ _ _ (h .form)
     ∙ (λ t. Some (AluOneSource op (register-low w (above * 2 ^ 4 + registerCode source) result (omega arith) t) (register-at w 4 above (registerCode result) source (omega arith) lr t))))
 complete w (AluTwoSources op result op1 op2) h =
-    let lo = operationCode-below op in
-    let lr = registerCode-below result in
-    let l1 = registerCode-below op1 in
-    let l2 = registerCode-below op2 in
+    let lo = by-operation .stands op .0 in
+    let lr = by-register .stands result .0 in
+    let l1 = by-register .stands op1 .0 in
+    let l2 = by-register .stands op2 .0 in
     let top = 0b00110 * 2 ^ 5 + operationCode op in
     let above = top * 2 ^ 4 + registerCode op2 in
     row-says 14 (lit< tt) w (omega arith)
-    (ap (λ o. reading o (registersOf w)) (operation-named (bits w 12 5) op (field w 12 5 0b00110 (operationCode op) (registerCode op2 * 2 ^ 8 + registerCode op1 * 2 ^ 4 + registerCode result) (omega arith) lo (omega arith)))
+    (ap (λ o. reading o (registersOf w)) (found-at by-operation w 12 0b00110 (registerCode op2 * 2 ^ 8 + registerCode op1 * 2 ^ 4 + registerCode result) op (omega arith) (omega arith))
     ∙ cond-false _ _ _ (two-not-one op (h .form))
     ∙ cond-true _ _ _ (h .form)
     ∙ (λ t. Some (AluTwoSources op (register-low w (above * 2 ^ 4 + registerCode op1) result (omega arith) t) (register-at w 4 above (registerCode result) op1 (omega arith) lr t) (register-at w 8 top (registerCode op1 * 2 ^ 4 + registerCode result) op2 (omega arith) (omega arith) t))))
 complete w (Store (Direct a) r) h =
-    let lr = registerCode-below r in
+    let lr = by-register .stands r .0 in
     let la = ltb-true a (2 ^ 8) (h .fields) in
     let held = lowest w 8 (0b0000011011 * 2 ^ 4 + registerCode r) (0xFF - a) (omega arith) (omega arith) in
     let back : inverted w 8 ≡ a = omega arith in
     row-says 23 (lit< tt) w (omega arith)
     ((λ t. Some (Store (Direct (back t)) (register-at w 8 0b0000011011 (0xFF - a) r (omega arith) (omega arith) t))))
 complete w (Store (Offset ix offset) r) h =
-    let lr = registerCode-below r in
-    let lx = indexCode-below ix in
+    let lr = by-register .stands r .0 in
+    let lx = by-index .stands ix .0 in
     let la = ltb-true offset (2 ^ 8) (h .fields) in
     let above = 0b00001011 * 2 ^ 2 + indexCode ix in
     row-says 22 (lit< tt) w (omega arith)
     ((λ t. Some (Store (Offset (index-at w 12 0b00001011 (registerCode r * 2 ^ 8 + offset) ix (omega arith) (omega arith) t) (lowest w 8 (above * 2 ^ 4 + registerCode r) offset (omega arith) la t)) (register-at w 8 above offset r (omega arith) la t))))
 complete w (Store (OffsetR3 ix) r) h =
-    let lr = registerCode-below r in
-    let lx = indexCode-below ix in
+    let lr = by-register .stands r .0 in
+    let lx = by-index .stands ix .0 in
     let above = 0b00001110 * 2 ^ 2 + indexCode ix in
     row-says 20 (lit< tt) w (omega arith)
     (cond-true _ _ _ (eq-eqb _ _ (lowest w 8 (above * 2 ^ 4 + registerCode r) 0xFF (omega arith) (lit< tt)))
     ∙ (λ t. Some (Store (OffsetR3 (index-at w 12 0b00001110 (registerCode r * 2 ^ 8 + 0xFF) ix (omega arith) (omega arith) t)) (register-at w 8 above 0xFF r (omega arith) (lit< tt) t))))
 complete w (Store (PostIncrement ix step) r) h =
-    let lr = registerCode-below r in
-    let lx = indexCode-below ix in
+    let lr = by-register .stands r .0 in
+    let lx = by-index .stands ix .0 in
     let ls = ltb-true step (2 ^ 7) (h .fields) in
     let above = 0b00001101 * 2 ^ 2 + indexCode ix in
     let same = index-at w 12 0b00001101 (registerCode r * 2 ^ 8 + step) ix (omega arith) (omega arith) in
     row-says 21 (lit< tt) w (omega arith)
     ((λ t. Some (Store (stepped-up w (above * 2 ^ 4 + registerCode r) step ix (index (bits w 12 2)) (omega arith) ls same t) (register-at w 8 above step r (omega arith) (omega arith) t))))
 complete w (Store (PreDecrement ix step) r) h =
-    let lr = registerCode-below r in
-    let lx = indexCode-below ix in
+    let lr = by-register .stands r .0 in
+    let lx = by-index .stands ix .0 in
     let range = and-parts (leb 1 step) (leb step (2 ^ 7)) (h .fields) in
     let one = leb-true 1 step (range .0) in
     let top = leb-true step (2 ^ 7) (range .1) in

@@ -4,15 +4,17 @@ use mathlib.Core.Bool.{Bool, true, false, cond, _&&_}
 use mathlib.Core.List.{List, [], _∷_}
 use mathlib.Core.Logic.{⊎-elim}
 use mathlib.Core.Path.{_≡_, refl, ap, _∙_}
-use Prim.Native.Nat.{ℕ, zero, suc, _<_}
+use Prim.Native.Nat.{ℕ, zero, suc, _+_, _*_, _^_, _<_}
 use native.Mathlib.Nat.{not-suc-le-zero}
 use native.Mathlib.Omega.{arith}
 use borrow.Author.Tests.{clash}
 use lib.Dec.{eqb, lit<}
 use Rattle.std.proofs.shelf.Tests.{eqb-true, and-parts, cases-order}
+use Rattle.std.specs.Options.{valueOr}
 use Rattle.std.specs.declared.option.Option.{Option}
 use Rattle.std.specs.declared.option.Option.the-variants.{Some}
-use Rattle.words.specs.Codes.{find, registerCode, register, indexCode, index, conditionCode, condition, divisionCode, division, divisions, operationCode, operation, operations}
+use Rattle.words.specs.Bits.{low, bits}
+use Rattle.words.specs.Codes.{find, registerCode, registers, register, indexCode, indexRegisters, index, conditionCode, conditions, condition, divisionCode, divisions, operationCode, operations}
 use Rattle.words.specs.declared.conditions.Condition.{Condition}
 use Rattle.words.specs.declared.conditions.Condition.the-variants.{CarryClear, OverflowClear, ZeroClear, Always, CarrySet, OverflowSet, ZeroSet, Event}
 use Rattle.words.specs.declared.divisions.Division.{Division}
@@ -25,6 +27,23 @@ use Rattle.words.specs.declared.registers.IndexRegister.{IndexRegister}
 use Rattle.words.specs.declared.registers.IndexRegister.the-variants.{I0, I1, I2, I3}
 use Rattle.words.specs.declared.registers.Register.{Register}
 use Rattle.words.specs.declared.registers.Register.the-variants.{I0l, I0h, I1l, I1h, I2l, I2h, I3l, I3h, Ipl, Iph, Stat, R3, R2, R1, R0, A}
+use Rattle.words.proofs.Fields.{field, lowest}
+
+-- How the codes of a field name the values of X: each value is found under its own code, which fits the field.
+pub record Naming (X : Type 0) : Type 0 where
+  pub width : ℕ
+  pub code : X → ℕ
+  pub all : List X
+  pub stands : (x : X) → (code x < 2 ^ width) × (find code all (code x) ≡ Some x)
+
+-- what is found under a code has that code
+here-or-later : {X : Type 0} (code : X → ℕ) (y x : X) (n : ℕ) (later : Option X) → (later ≡ Some x → code x ≡ n) → (b : Bool) → eqb (code y) n ≡ b → cond b (Some y) later ≡ Some x → code x ≡ n
+here-or-later code y x n later rest true t e = let same : x ≡ y = cc in ap code same ∙ eqb-true (code y) n t
+here-or-later code y x n later rest false t e = rest e
+
+pub find-code : {X : Type 0} (code : X → ℕ) (xs : List X) (n : ℕ) (x : X) → find code xs n ≡ Some x → code x ≡ n
+find-code code [] n x e = let z : _≡_ {A = ℕ} 0 1 = cc in absurd (omega arith)
+find-code code (y ∷ xs) n x e = here-or-later code y x n (find code xs n) (find-code code xs n x) (eqb (code y) n) refl e
 
 -- what a test says of each number below n
 abbrev all-below : (ℕ → Bool) → ℕ → Bool
@@ -37,188 +56,117 @@ below p (suc n) t k lt =
     let parts = and-parts (p n) (all-below p n) t in
     ⊎-elim (λ e. ap p e ∙ parts .0) (⊎-elim (λ less. below p n (parts .1) k less) (λ more. absurd (omega arith))) (cases-order k n)
 
--- what is found under a code has that code
-here-or-later : {X : Type 0} (code : X → ℕ) (y x : X) (n : ℕ) (later : Option X) → (later ≡ Some x → code x ≡ n) → (b : Bool) → eqb (code y) n ≡ b → cond b (Some y) later ≡ Some x → code x ≡ n
-here-or-later code y x n later rest true t e = let same : x ≡ y = cc in ap code same ∙ eqb-true (code y) n t
-here-or-later code y x n later rest false t e = rest e
+module _ {X : Type 0} (N : Naming X) where
+  pub found : (n : ℕ) (x : X) → n ≡ N .code x → find (N .code) (N .all) n ≡ Some x
+  found n x e = ap (find (N .code) (N .all)) e ∙ N .stands x .1
 
-find-code : {X : Type 0} (code : X → ℕ) (xs : List X) (n : ℕ) (x : X) → find code xs n ≡ Some x → code x ≡ n
-find-code code [] n x e = let z : _≡_ {A = ℕ} 0 1 = cc in absurd (omega arith)
-find-code code (y ∷ xs) n x e = here-or-later code y x n (find code xs n) (find-code code xs n x) (eqb (code y) n) refl e
+  -- x stands in the field from bit k on, with p above it and rest below it
+  pub found-at : (w k p rest : ℕ) (x : X) → w ≡ (p * 2 ^ (N .width) + N .code x) * 2 ^ k + rest → rest < 2 ^ k → find (N .code) (N .all) (bits w k (N .width)) ≡ Some x
+  found-at w k p rest x e lt = found (bits w k (N .width)) x (field w k (N .width) p (N .code x) rest e (N .stands x .0) lt)
 
-pub registerCode-below : (x : Register) → registerCode x < 16
-registerCode-below I0l = lit< tt
-registerCode-below I0h = lit< tt
-registerCode-below I1l = lit< tt
-registerCode-below I1h = lit< tt
-registerCode-below I2l = lit< tt
-registerCode-below I2h = lit< tt
-registerCode-below I3l = lit< tt
-registerCode-below I3h = lit< tt
-registerCode-below Ipl = lit< tt
-registerCode-below Iph = lit< tt
-registerCode-below Stat = lit< tt
-registerCode-below R3 = lit< tt
-registerCode-below R2 = lit< tt
-registerCode-below R1 = lit< tt
-registerCode-below R0 = lit< tt
-registerCode-below A = lit< tt
+  -- x stands in the lowest field, with p above it
+  pub found-low : (w p : ℕ) (x : X) → w ≡ p * 2 ^ (N .width) + N .code x → find (N .code) (N .all) (low w (N .width)) ≡ Some x
+  found-low w p x e = found (low w (N .width)) x (lowest w (N .width) p (N .code x) e (N .stands x .0))
 
-of-registerCode : (x : Register) → register (registerCode x) ≡ x
-of-registerCode I0l = refl
-of-registerCode I0h = refl
-of-registerCode I1l = refl
-of-registerCode I1h = refl
-of-registerCode I2l = refl
-of-registerCode I2h = refl
-of-registerCode I3l = refl
-of-registerCode I3h = refl
-of-registerCode Ipl = refl
-of-registerCode Iph = refl
-of-registerCode Stat = refl
-of-registerCode R3 = refl
-of-registerCode R2 = refl
-of-registerCode R1 = refl
-of-registerCode R0 = refl
-of-registerCode A = refl
+-- where each value of the field is a code, the d that stands in for a missing name is never taken
+every-code : {X : Type 0} (code : X → ℕ) (all : List X) (d : X) (n : ℕ) → all-below (λ k. eqb (code (valueOr (find code all k) d)) k) n ≡ true → (k : ℕ) → k < n → code (valueOr (find code all k) d) ≡ k
+every-code code all d n t k lt = eqb-true _ _ (below (λ k. eqb (code (valueOr (find code all k) d)) k) n t k lt)
 
-pub register-named : (n : ℕ) (x : Register) → n ≡ registerCode x → register n ≡ x
-register-named n x e = ap register e ∙ of-registerCode x
+pub register-stands : (x : Register) → (registerCode x < 2 ^ 4) × (find registerCode registers (registerCode x) ≡ Some x)
+register-stands I0l = (lit< tt, refl)
+register-stands I0h = (lit< tt, refl)
+register-stands I1l = (lit< tt, refl)
+register-stands I1h = (lit< tt, refl)
+register-stands I2l = (lit< tt, refl)
+register-stands I2h = (lit< tt, refl)
+register-stands I3l = (lit< tt, refl)
+register-stands I3h = (lit< tt, refl)
+register-stands Ipl = (lit< tt, refl)
+register-stands Iph = (lit< tt, refl)
+register-stands Stat = (lit< tt, refl)
+register-stands R3 = (lit< tt, refl)
+register-stands R2 = (lit< tt, refl)
+register-stands R1 = (lit< tt, refl)
+register-stands R0 = (lit< tt, refl)
+register-stands A = (lit< tt, refl)
+
+abbrev pub by-register : Naming Register
+by-register = record { width = 4; code = registerCode; all = registers; stands = register-stands }
+
+pub index-stands : (x : IndexRegister) → (indexCode x < 2 ^ 2) × (find indexCode indexRegisters (indexCode x) ≡ Some x)
+index-stands I0 = (lit< tt, refl)
+index-stands I1 = (lit< tt, refl)
+index-stands I2 = (lit< tt, refl)
+index-stands I3 = (lit< tt, refl)
+
+abbrev pub by-index : Naming IndexRegister
+by-index = record { width = 2; code = indexCode; all = indexRegisters; stands = index-stands }
+
+pub condition-stands : (x : Condition) → (conditionCode x < 2 ^ 3) × (find conditionCode conditions (conditionCode x) ≡ Some x)
+condition-stands CarryClear = (lit< tt, refl)
+condition-stands OverflowClear = (lit< tt, refl)
+condition-stands ZeroClear = (lit< tt, refl)
+condition-stands Always = (lit< tt, refl)
+condition-stands CarrySet = (lit< tt, refl)
+condition-stands OverflowSet = (lit< tt, refl)
+condition-stands ZeroSet = (lit< tt, refl)
+condition-stands Event = (lit< tt, refl)
+
+abbrev pub by-condition : Naming Condition
+by-condition = record { width = 3; code = conditionCode; all = conditions; stands = condition-stands }
+
+pub division-stands : (x : Division) → (divisionCode x < 2 ^ 4) × (find divisionCode divisions (divisionCode x) ≡ Some x)
+division-stands Undivided = (lit< tt, refl)
+division-stands By2 = (lit< tt, refl)
+division-stands By4 = (lit< tt, refl)
+division-stands By8 = (lit< tt, refl)
+division-stands By16 = (lit< tt, refl)
+
+abbrev pub by-division : Naming Division
+by-division = record { width = 4; code = divisionCode; all = divisions; stands = division-stands }
+
+pub operation-stands : (x : Operation) → (operationCode x < 2 ^ 5) × (find operationCode operations (operationCode x) ≡ Some x)
+operation-stands Cmpa = (lit< tt, refl)
+operation-stands Cmp = (lit< tt, refl)
+operation-stands And = (lit< tt, refl)
+operation-stands Subs = (lit< tt, refl)
+operation-stands Subd = (lit< tt, refl)
+operation-stands Subdc = (lit< tt, refl)
+operation-stands Mula = (lit< tt, refl)
+operation-stands Subsc = (lit< tt, refl)
+operation-stands Xor = (lit< tt, refl)
+operation-stands Move = (lit< tt, refl)
+operation-stands Or = (lit< tt, refl)
+operation-stands Add = (lit< tt, refl)
+operation-stands Addc = (lit< tt, refl)
+operation-stands Mul = (lit< tt, refl)
+operation-stands Tstb = (lit< tt, refl)
+operation-stands Shra = (lit< tt, refl)
+operation-stands Inc = (lit< tt, refl)
+operation-stands Cmvd = (lit< tt, refl)
+operation-stands Cmvs = (lit< tt, refl)
+operation-stands Shrc = (lit< tt, refl)
+operation-stands Incc = (lit< tt, refl)
+operation-stands Shr = (lit< tt, refl)
+operation-stands Cpl1 = (lit< tt, refl)
+operation-stands Cpl2 = (lit< tt, refl)
+operation-stands Shl = (lit< tt, refl)
+operation-stands Dec = (lit< tt, refl)
+operation-stands Cpl2c = (lit< tt, refl)
+operation-stands Shlc = (lit< tt, refl)
+operation-stands Decc = (lit< tt, refl)
+
+abbrev pub by-operation : Naming Operation
+by-operation = record { width = 5; code = operationCode; all = operations; stands = operation-stands }
 
 pub register-code : (n : ℕ) → n < 16 → registerCode (register n) ≡ n
-register-code n lt = eqb-true _ _ (below (λ k. eqb (registerCode (register k)) k) 16 refl n lt)
-
-pub indexCode-below : (x : IndexRegister) → indexCode x < 4
-indexCode-below I0 = lit< tt
-indexCode-below I1 = lit< tt
-indexCode-below I2 = lit< tt
-indexCode-below I3 = lit< tt
-
-of-indexCode : (x : IndexRegister) → index (indexCode x) ≡ x
-of-indexCode I0 = refl
-of-indexCode I1 = refl
-of-indexCode I2 = refl
-of-indexCode I3 = refl
-
-pub index-named : (n : ℕ) (x : IndexRegister) → n ≡ indexCode x → index n ≡ x
-index-named n x e = ap index e ∙ of-indexCode x
+register-code = every-code registerCode registers A 16 refl
 
 pub index-code : (n : ℕ) → n < 4 → indexCode (index n) ≡ n
-index-code n lt = eqb-true _ _ (below (λ k. eqb (indexCode (index k)) k) 4 refl n lt)
-
-pub conditionCode-below : (x : Condition) → conditionCode x < 8
-conditionCode-below CarryClear = lit< tt
-conditionCode-below OverflowClear = lit< tt
-conditionCode-below ZeroClear = lit< tt
-conditionCode-below Always = lit< tt
-conditionCode-below CarrySet = lit< tt
-conditionCode-below OverflowSet = lit< tt
-conditionCode-below ZeroSet = lit< tt
-conditionCode-below Event = lit< tt
-
-of-conditionCode : (x : Condition) → condition (conditionCode x) ≡ x
-of-conditionCode CarryClear = refl
-of-conditionCode OverflowClear = refl
-of-conditionCode ZeroClear = refl
-of-conditionCode Always = refl
-of-conditionCode CarrySet = refl
-of-conditionCode OverflowSet = refl
-of-conditionCode ZeroSet = refl
-of-conditionCode Event = refl
-
-pub condition-named : (n : ℕ) (x : Condition) → n ≡ conditionCode x → condition n ≡ x
-condition-named n x e = ap condition e ∙ of-conditionCode x
+index-code = every-code indexCode indexRegisters I3 4 refl
 
 pub condition-code : (n : ℕ) → n < 8 → conditionCode (condition n) ≡ n
-condition-code n lt = eqb-true _ _ (below (λ k. eqb (conditionCode (condition k)) k) 8 refl n lt)
-
-pub divisionCode-below : (x : Division) → divisionCode x < 16
-divisionCode-below Undivided = lit< tt
-divisionCode-below By2 = lit< tt
-divisionCode-below By4 = lit< tt
-divisionCode-below By8 = lit< tt
-divisionCode-below By16 = lit< tt
-
-of-divisionCode : (x : Division) → division (divisionCode x) ≡ Some x
-of-divisionCode Undivided = refl
-of-divisionCode By2 = refl
-of-divisionCode By4 = refl
-of-divisionCode By8 = refl
-of-divisionCode By16 = refl
-
-pub division-named : (n : ℕ) (x : Division) → n ≡ divisionCode x → division n ≡ Some x
-division-named n x e = ap division e ∙ of-divisionCode x
-
-pub division-code : (n : ℕ) (x : Division) → division n ≡ Some x → divisionCode x ≡ n
-division-code n x e = find-code divisionCode divisions n x e
-
-pub operationCode-below : (x : Operation) → operationCode x < 32
-operationCode-below Cmpa = lit< tt
-operationCode-below Cmp = lit< tt
-operationCode-below And = lit< tt
-operationCode-below Subs = lit< tt
-operationCode-below Subd = lit< tt
-operationCode-below Subdc = lit< tt
-operationCode-below Mula = lit< tt
-operationCode-below Subsc = lit< tt
-operationCode-below Xor = lit< tt
-operationCode-below Move = lit< tt
-operationCode-below Or = lit< tt
-operationCode-below Add = lit< tt
-operationCode-below Addc = lit< tt
-operationCode-below Mul = lit< tt
-operationCode-below Tstb = lit< tt
-operationCode-below Shra = lit< tt
-operationCode-below Inc = lit< tt
-operationCode-below Cmvd = lit< tt
-operationCode-below Cmvs = lit< tt
-operationCode-below Shrc = lit< tt
-operationCode-below Incc = lit< tt
-operationCode-below Shr = lit< tt
-operationCode-below Cpl1 = lit< tt
-operationCode-below Cpl2 = lit< tt
-operationCode-below Shl = lit< tt
-operationCode-below Dec = lit< tt
-operationCode-below Cpl2c = lit< tt
-operationCode-below Shlc = lit< tt
-operationCode-below Decc = lit< tt
-
-of-operationCode : (x : Operation) → operation (operationCode x) ≡ Some x
-of-operationCode Cmpa = refl
-of-operationCode Cmp = refl
-of-operationCode And = refl
-of-operationCode Subs = refl
-of-operationCode Subd = refl
-of-operationCode Subdc = refl
-of-operationCode Mula = refl
-of-operationCode Subsc = refl
-of-operationCode Xor = refl
-of-operationCode Move = refl
-of-operationCode Or = refl
-of-operationCode Add = refl
-of-operationCode Addc = refl
-of-operationCode Mul = refl
-of-operationCode Tstb = refl
-of-operationCode Shra = refl
-of-operationCode Inc = refl
-of-operationCode Cmvd = refl
-of-operationCode Cmvs = refl
-of-operationCode Shrc = refl
-of-operationCode Incc = refl
-of-operationCode Shr = refl
-of-operationCode Cpl1 = refl
-of-operationCode Cpl2 = refl
-of-operationCode Shl = refl
-of-operationCode Dec = refl
-of-operationCode Cpl2c = refl
-of-operationCode Shlc = refl
-of-operationCode Decc = refl
-
-pub operation-named : (n : ℕ) (x : Operation) → n ≡ operationCode x → operation n ≡ Some x
-operation-named n x e = ap operation e ∙ of-operationCode x
-
-pub operation-code : (n : ℕ) (x : Operation) → operation n ≡ Some x → operationCode x ≡ n
-operation-code n x e = find-code operationCode operations n x e
+condition-code = every-code conditionCode conditions Event 8 refl
 
 -- four bits hold the code of an operation that the immediate form has
 pub immediate-below : (x : Operation) → hasForm x Immediate ≡ true → operationCode x < 16

@@ -13,7 +13,7 @@ use Rattle.std.specs.declared.option.Option.{Option}
 use Rattle.std.specs.declared.option.Option.the-variants.{None, Some}
 use Rattle.std.specs.declared.result.Result.the-variants.{Ok, Err}
 use Rattle.words.specs.Bits.{low, bits, inverted, invertedBits, ones}
-use Rattle.words.specs.Codes.{registerCode, register, indexCode, index, conditionCode, condition, division, operationCode, operation}
+use Rattle.words.specs.Codes.{registerCode, register, indexCode, index, conditionCode, condition, division, operationCode, operation, divisionCode, divisions, operations}
 use Rattle.words.specs.Decoding.{Row, first, rows, reading, operationIn, aluMemory, registersOf, given, fits, stepped, decoded}
 use Rattle.words.specs.Encoding.{formed, fieldsFit, addressFits, wordWith, aluMemoryWord, storeWord}
 use Rattle.words.specs.Forms.{hasForm}
@@ -32,7 +32,7 @@ use Rattle.words.specs.declared.operations.Operation.{Operation}
 use Rattle.words.specs.declared.registers.IndexRegister.{IndexRegister}
 use Rattle.words.specs.declared.registers.Register.{Register}
 use Rattle.words.proofs.Fields.{ended, parted}
-use Rattle.words.proofs.Names.{register-code, index-code, condition-code, division-code, operation-code}
+use Rattle.words.proofs.Names.{find-code, register-code, index-code, condition-code}
 use Rattle.words.proofs.Fitting.{Has, none}
 
 -- what the row r reads from a word of its own is the instruction of that word
@@ -53,7 +53,7 @@ operation-said : (form : Form) (n : ℕ) (f : Operation → Instruction) (i : In
 operation-said form n f i e = found (operation n) refl e
   where
     formed-so : (op : Operation) → operation n ≡ Some op → (b : Bool) → hasForm op form ≡ b → mapped f (cond b (Some op) None) ≡ Some i → (op : Operation) × (operationCode op ≡ n) × (hasForm op form ≡ true) × (f op ≡ i)
-    formed-so op at true has e = (op, operation-code n op at, has, cc)
+    formed-so op at true has e = (op, find-code operationCode operations n op at, has, cc)
     formed-so op at false has e = let z : _≡_ {A = ℕ} 0 1 = cc in absurd (omega arith)
 
     found : (o : Option Operation) → operation n ≡ o → mapped f (reading o (λ op. cond (hasForm op form) (Some op) None)) ≡ Some i → (op : Operation) × (operationCode op ≡ n) × (hasForm op form ≡ true) × (f op ≡ i)
@@ -173,7 +173,7 @@ sound-alu-registers w i h e = found (operation (bits w 12 5)) refl e
     two op at true has e =
         said w _ i e
         (word-of w (AluTwoSources op (register (low w 4)) (register (bits w 4 4)) (register (bits w 8 4))) has refl
-        (two-sources-sum w op _ _ _ h (operation-code (bits w 12 5) op at) (register-code (bits w 8 4) (omega arith)) (register-code (bits w 4 4) (omega arith)) (register-code (low w 4) (omega arith))))
+        (two-sources-sum w op _ _ _ h (find-code operationCode operations (bits w 12 5) op at) (register-code (bits w 8 4) (omega arith)) (register-code (bits w 4 4) (omega arith)) (register-code (low w 4) (omega arith))))
 
     one : (op : Operation) → operation (bits w 12 5) ≡ Some op → (b : Bool) → hasForm op OneSource ≡ b → cond b (Some (AluOneSource op (register (low w 4)) (register (bits w 4 4)))) (cond (hasForm op TwoSources) (Some (AluTwoSources op (register (low w 4)) (register (bits w 4 4)) (register (bits w 8 4)))) None) ≡ Some i → WordOf w i
     one op at false has e = two op at (hasForm op TwoSources) refl e
@@ -183,7 +183,7 @@ sound-alu-registers w i h e = found (operation (bits w 12 5)) refl e
           fields = refl;
           unread = bits w 8 4;
           four = omega arith;
-          sum = one-source-sum w op _ _ h (operation-code (bits w 12 5) op at) (register-code (bits w 4 4) (omega arith)) (register-code (low w 4) (omega arith));
+          sum = one-source-sum w op _ _ h (find-code operationCode operations (bits w 12 5) op at) (register-code (bits w 4 4) (omega arith)) (register-code (low w 4) (omega arith));
         })
 
     found : (o : Option Operation) → operation (bits w 12 5) ≡ o → reading o (registersOf w) ≡ Some i → WordOf w i
@@ -198,7 +198,7 @@ sound-freq w i h e = found (division (low w 4)) refl e
   where
     found : (o : Option Division) → division (low w 4) ≡ o → mapped Freq o ≡ Some i → WordOf w i
     found None at e = let z : _≡_ {A = ℕ} 0 1 = cc in absurd (omega arith)
-    found (Some d) at e = said w (Freq d) i e (word-of w (Freq d) refl refl (let code = division-code (low w 4) d at in omega arith))
+    found (Some d) at e = said w (Freq d) i e (word-of w (Freq d) refl refl (let code = find-code divisionCode divisions (low w 4) d at in omega arith))
 
 sound-sflag : Sound (nth 17)
 sound-sflag w i h e = said w Sflag i e (word-of w Sflag refl refl (omega arith))
