@@ -1,0 +1,4 @@
+pub mod Description
+pub mod Lowest
+pub mod Refusals
+pub mod Stores
