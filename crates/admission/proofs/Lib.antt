@@ -1,0 +1,9 @@
+pub mod Assigned
+pub mod Chains
+pub mod Deciding
+pub mod EachLine
+pub mod Judging
+pub mod LineRules
+pub mod Shapes
+pub mod Verdicts
+pub mod Walk

@@ -1,0 +1,11 @@
+pub mod Admission
+pub mod Chain
+pub mod Instructions
+pub mod Laws
+pub mod Program
+pub mod Refusals
+pub mod Roles
+pub mod Rules
+pub mod Tables
+pub mod Tests
+pub mod Views
