@@ -1,0 +1,4 @@
+pub mod Examples
+pub mod Jobs
+pub mod Refusals
+pub mod Verdicts
