@@ -63,7 +63,7 @@ in-list Depth = refl
 same-rule : (q r : Rule) → ruleNumber q ≡ ruleNumber r → q ≡ r
 same-rule q r e = sym (in-list q) ∙ ap (λ n. getD rules (n - 1) Depth) e ∙ in-list r
 
-few-rules : (q : Rule) → ruleNumber q < 14
+pub few-rules : (q : Rule) → ruleNumber q < 14
 few-rules Description = omega arith
 few-rules Sizes = omega arith
 few-rules Chain = omega arith

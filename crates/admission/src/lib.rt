@@ -5,7 +5,7 @@ mod entries;
 pub mod faults;
 mod gate;
 mod instructions;
-pub mod kinds;
+mod kinds;
 mod lines;
 mod roles;
 pub mod rules;

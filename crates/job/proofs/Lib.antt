@@ -1,2 +1,4 @@
 pub mod Nine
 pub mod Parts
+pub mod Saying
+pub mod Sizes

@@ -1,14 +1,11 @@
 -- What is answered of the parts of a job is what is said of the job.
 -- Assumes nothing.
-use mathlib.Core.Bool.{true, cond, _&&_}
+use mathlib.Core.Bool.{true}
 use mathlib.Core.List.{List, [], _∷_}
 use mathlib.Core.Path.{_≡_, sym, ap, _∙_}
-use Prim.Native.Nat.{ℕ, _+_, _*_, _/_}
-use native.Mathlib.Omega.{arith}
-use lib.Dec.{leb, eqb}
+use Prim.Native.Nat.{ℕ, _/_}
 use lib.ListN.{length}
-use Rattle.std.proofs.shelf.Lists.{length-take, length-drop}
-use Rattle.std.proofs.shelf.Tests.{and-parts, eqb-true, cond-true}
+use Rattle.std.proofs.shelf.Tests.{cond-true}
 use Rattle.std.specs.Results.{isOk}
 use Rattle.std.specs.declared.result.Result.{Result}
 use Rattle.std.specs.declared.result.Result.the-variants.{Ok}
@@ -17,18 +14,10 @@ use Rattle.platform.specs.declared.description.CoreDescription.{CoreDescription
 use Rattle.admission.specs.Admission.{admission}
 use Rattle.admission.specs.Program.{program}
 use Rattle.admission.specs.declared.faults.Fault.{Fault}
-use Rattle.job.specs.Jobs.{numbers, wordCount, linesStart, descriptionIn, wordBytes, tableBytes, lineBytes, wellSized, programOf, ruled, stored, verdictOf}
-use Rattle.job.specs.declared.verdicts.Verdict.{Verdict}
+use Rattle.job.specs.Jobs.{numbers, wordCount, descriptionIn, wordBytes, tableBytes, lineBytes, wellSized, programOf, ruled, stored, verdictOf}
+use Rattle.job.proofs.Sizes.{decides-sized, counted}
 
 module _ (job : List ℕ) (sized : wellSized job ≡ true) where
-  whole : length job ≡ linesStart job + 2 * wordCount job
-  whole =
-      let rest = and-parts (leb 12 (length job)) (leb (length job) 43014 && eqb (length job) (linesStart job + 2 * wordCount job)) sized in
-      eqb-true _ _ (and-parts (leb (length job) 43014) (eqb (length job) (linesStart job + 2 * wordCount job)) (rest .1) .1)
-
-  counted : length (wordBytes job) / 3 ≡ wordCount job
-  counted = let long = whole in simp (length-take, length-drop) (omega arith)
-
   module _ (words : List ℕ) (is-words : words ≡ wordBytes job) (u : Unit {0}) (fit : bytesTested words ≡ Ok u) where
     -- what passed its test is used as it is
     used : usedBytes words ≡ wordBytes job
@@ -40,7 +29,7 @@ module _ (job : List ℕ) (sized : wellSized job ≡ true) where
         meant : admission (program d (length s / 3) (formed s) T L) ≡ admission (programOf job)
         meant =
             ap (λ x. admission (program d (length x / 3) (formed x) T L)) (is-s ∙ used)
-            ∙ ap (λ n. admission (program d n (formed (wordBytes job)) T L)) counted
+            ∙ ap (λ n. admission (program d n (formed (wordBytes job)) T L)) (counted job (decides-sized job .0 sized))
             ∙ ap (λ x. admission (program x (wordCount job) (formed (wordBytes job)) T L)) is-d
             ∙ ap (λ x. admission (program (descriptionIn job) (wordCount job) (formed (wordBytes job)) x L)) is-T
             ∙ ap (λ x. admission (program (descriptionIn job) (wordCount job) (formed (wordBytes job)) (numbers (tableBytes job)) x)) is-L

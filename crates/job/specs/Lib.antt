@@ -1,4 +1,5 @@
 pub mod Examples
 pub mod Jobs
+pub mod Laws
 pub mod Refusals
 pub mod Verdicts

@@ -5,6 +5,7 @@ ghost use mathlib.Core.Path.{_≡_};
 ghost use Rattle.std.specs.Vec.{made};
 ghost use Rattle.admission.specs.Admission.{admission};
 ghost use Rattle.job.specs.Jobs.{wellSized, ruled, verdictOf};
+ghost use Rattle.job.specs.Laws.{Says};
 use crate::jobs::is_well_sized;
 use crate::jobs::parts;
 use crate::numbers::numbers_of;
@@ -49,7 +50,7 @@ fn judge_parts(heap: Global, job: &[u8]) -> Result<Verdict, AllocError>
 // Whether the length is a job's, then whether the words are a store, and then the rules. Only want of memory leaves it
 // unsaid.
 pub fn judge(heap: Global, job: &[u8]) -> Result<Verdict, AllocError>
-    ensures { λ r. ⌜ made r (λ v. v ≡ verdictOf (now (job .entry))) ⌝ }
+    ensures { λ r. ⌜ made r (λ v. (v ≡ verdictOf (now (job .entry))) × Says (now (job .entry)) v) ⌝ }
 {
     if !is_well_sized(job) {
         return Ok(Verdict::Refused(Refusal::Length));
