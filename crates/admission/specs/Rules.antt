@@ -9,9 +9,11 @@ use Rattle.std.specs.declared.option.Option.{Option}
 use Rattle.std.specs.declared.option.Option.the-variants.{None, Some}
 use Rattle.std.specs.declared.result.Result.the-variants.{Ok}
 use Rattle.words.specs.Decoding.{decoded}
+use Rattle.words.specs.declared.conditions.Condition.{Condition}
 use Rattle.words.specs.declared.conditions.Condition.the-variants.{Always}
 use Rattle.words.specs.declared.instructions.Instruction.{Instruction}
 use Rattle.words.specs.declared.instructions.Instruction.the-variants.{Push, Pop, Ret, Reti, Jump, Call, Calls}
+use Rattle.words.specs.declared.instructions.Target.{Target}
 use Rattle.words.specs.declared.instructions.Target.the-variants.{Address, Ip}
 use Rattle.words.specs.declared.registers.Register.the-variants.{Stat}
 use Rattle.platform.specs.Description.{InLimits, vector}
@@ -87,9 +89,9 @@ module _ (P : Program) where
   pub record Permitted (a : ℕ) : Type 0 where
     pub instruction : Instruction
     pub at : At a instruction
-    pub no-calls : (t : _) → instruction ≡ Calls t → ⊥
+    pub no-calls : (t : Target) → instruction ≡ Calls t → ⊥
     pub no-call-ip : instruction ≡ Call Ip → ⊥
-    pub no-jump-ip : (cc : _) → instruction ≡ Jump cc Ip → ⊥
+    pub no-jump-ip : (cc : Condition) → instruction ≡ Jump cc Ip → ⊥
 
   -- POP has a word to take; RET ends a routine that is called, and RETI an interrupt routine, with none of its words left
   pub record SoundStack (a : ℕ) : Type 0 where
@@ -111,13 +113,13 @@ module _ (P : Program) where
   pub record GoesOn (a : ℕ) : Type 0 where
     pub instruction : Instruction
     pub at : At a instruction
-    pub no-jump : (t : _) → At a (Jump Always t) → ⊥
+    pub no-jump : (t : Target) → At a (Jump Always t) → ⊥
     pub no-ret : At a Ret → ⊥
     pub no-reti : At a Reti → ⊥
 
   pub record SoundSuccessors (a : ℕ) : Type 0 where
     pub next : GoesOn a → (h : ℕ) × Leaves a h × Leads a (a + 1) h
-    pub target : (cc : _) (t : ℕ) → At a (Jump cc (Address t)) → Leads a t (heightAt a)
+    pub target : (cc : Condition) (t : ℕ) → At a (Jump cc (Address t)) → Leads a t (heightAt a)
 
   -- a CALL goes to the entry of a chained record, with words enough for the return address and all that it uses
   pub record SoundCall (a t : ℕ) : Type 0 where
@@ -134,7 +136,7 @@ module _ (P : Program) where
   abbrev pub FitsDepth : Type 0
   FitsDepth = (b k : ℕ) → Routine Background b → Routine Interrupt k → need (P .table) b + 1 + need (P .table) k ≤ P .description .depth
 
-  -- a rule holds at a place
+  -- a rule holds at a place; the rules stand here in the order of their numbers, 1 to 13
   abbrev pub Holds : Rule → ℕ → Type 0
   Holds Description p = p ≡ 0 → InLimits (P .description)
   Holds Sizes p = p ≡ 0 → Sized
@@ -150,7 +152,8 @@ module _ (P : Program) where
   Holds (Line StatWrite) p = Owned p → WritesStat p → (kindAt p ≡ Some Background) ⊎ (kindAt p ≡ Some Open)
   Holds Depth p = p ≡ 0 → FitsDepth
 
-  -- the most words that the stack can hold: the background's, a return address, and those of the interrupt routine that needs most
+  -- d words are what the table declares at most: the background's, a return address, and those of the interrupt routine that
+  -- needs most
   pub record Deepest (d : ℕ) : Type 0 where
     pub background : ℕ
     pub is-background : Routine Background background

@@ -2,3 +2,4 @@ pub mod Nine
 pub mod Parts
 pub mod Saying
 pub mod Sizes
+pub mod Written

@@ -26,6 +26,7 @@ use Rattle.job.specs.declared.verdicts.Refusal.the-variants.{Length, Store}
 use Rattle.job.specs.declared.verdicts.Verdict.{Verdict}
 use Rattle.job.specs.declared.verdicts.Verdict.the-variants.{Admitted, Refused}
 use Rattle.job.proofs.Sizes.{decides-sized, long, counted}
+use Rattle.job.proofs.Written.{reads-back}
 
 abbrev number : Option (ℕ × ℕ) → ℕ
 number None = 0
@@ -64,6 +65,7 @@ module _ (job : List ℕ) where
     wide = λ p. (λ e. let z : _≡_ {A = ℕ} 33 30 = ap number e in absurd (omega arith), λ h. absurd (short (h .0)));
     admits = λ d. (λ e. let z : _≡_ {A = ℕ} 33 0 = admitted-only _ e in absurd (omega arith), λ h. absurd (short (h .0 .0)));
     refuses = λ rule p. (λ e. let z : 33 ≡ ruleNumber rule = ap number e in let few = few-rules rule in absurd (omega arith), λ h. absurd (short (h .0 .0)));
+    means = reads-back job;
   }
 
   -- a job whose words are no store
@@ -74,6 +76,7 @@ module _ (job : List ℕ) where
     wide = λ p. (λ e. (sized, t .wide p .0 (ap storeRefusal at ∙ e)), λ h. sym (ap storeRefusal at) ∙ t .wide p .1 (h .1));
     admits = λ d. (λ e. let z : storeNumber x ≡ 0 = admitted-only _ e in let high = late x in absurd (omega arith), λ h. absurd (fails (h .0 .1)));
     refuses = λ rule p. (λ e. let z : storeNumber x ≡ ruleNumber rule = ap number e in let few = few-rules rule in let high = late x in absurd (omega arith), λ h. absurd (fails (h .0 .1)));
+    means = reads-back job;
   }
     where
       t : Tests (InRange (wordCount job)) (wordCount job) (word job) (bytesTested (wordBytes job))
@@ -93,6 +96,7 @@ module _ (job : List ℕ) where
     wide = λ p. (λ e. let z = low a (ap number e) in absurd (omega arith), λ h. let no-wide = t .passes .0 at .1 p (h .1 .1) in let wide = h .1 .3 in absurd (omega arith));
     admits = λ d. (λ e. ((sized, t .passes .0 at), j .admits d .0 (back a d e)), λ h. ap ruled (j .admits d .1 (h .1)));
     refuses = λ rule p. (λ e. ((sized, t .passes .0 at), j .refuses rule p .0 (sym (same a) ∙ e)), λ h. same a ∙ j .refuses rule p .1 (h .1));
+    means = reads-back job;
   }
     where
       t : Tests (InRange (wordCount job)) (wordCount job) (word job) (bytesTested (wordBytes job))

@@ -14,6 +14,7 @@ use Rattle.admission.specs.Rules.{Deepest}
 use Rattle.admission.specs.declared.rules.Rule.{Rule}
 use Rattle.job.specs.Jobs.{wordCount, tableCount, wordBytes, programOf}
 use Rattle.job.specs.Refusals.{refusalLog}
+use Rattle.job.specs.Writing.{written, meant}
 use Rattle.job.specs.declared.verdicts.Verdict.{Verdict}
 use Rattle.job.specs.declared.verdicts.Verdict.the-variants.{Admitted, Refused}
 
@@ -34,6 +35,10 @@ module _ (job : List ℕ) where
   abbrev pub Readable : Type 0
   Readable = WellSized × (InRange (wordCount job) × Narrow word (wordCount job))
 
+  -- the program that is judged is the one that was written down
+  abbrev pub ReadsBack : Type 0
+  ReadsBack = (depth v0 v1 v2 : ℕ) (words T L : List ℕ) → job ≡ written depth v0 v1 v2 words T L → programOf job ≡ meant depth v0 v1 v2 words T L
+
   -- what v says of the job
   pub record Says (v : Verdict) : Type 0 where
     pub length : (verdictRefusal v ≡ Some (33, 0)) ↔ (WellSized → ⊥)
@@ -43,3 +48,4 @@ module _ (job : List ℕ) where
     pub admits : (d : ℕ) → (v ≡ Admitted d) ↔ (Readable × (AllHold (programOf job) × Deepest (programOf job) d))
     -- it is refused with a rule's number exactly if it can be read and breaks that rule first, and there first
     pub refuses : (rule : Rule) (p : ℕ) → (verdictRefusal v ≡ Some (ruleNumber rule, p)) ↔ (Readable × FirstBreak (programOf job) rule p)
+    pub means : ReadsBack

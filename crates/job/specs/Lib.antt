@@ -3,3 +3,4 @@ pub mod Jobs
 pub mod Laws
 pub mod Refusals
 pub mod Verdicts
+pub mod Writing
