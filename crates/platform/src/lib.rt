@@ -5,6 +5,8 @@ pub mod errors;
 pub mod joined_store;
 mod numbers;
 pub mod store;
+#[cfg(test)]
+mod tests;
 pub mod word_store;
 
 pub use byte_store::ByteStore;
