@@ -1,4 +1,6 @@
 // Judges a program by its depth table, before a core runs it.
+#![tactic(auto)]
+
 mod candidate;
 mod chain;
 mod entries;

@@ -1,4 +1,6 @@
 // Judges the job on standard input, and writes one line.
+#![tactic(auto)]
+
 use job::{LONGEST, judge};
 use std::io::{Read, Write};
 

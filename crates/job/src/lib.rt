@@ -1,4 +1,6 @@
 // A job: a program with its core description and depth table, as bytes, and what is said of it.
+#![tactic(auto)]
+
 pub mod examples;
 mod jobs;
 mod judging;

@@ -1,4 +1,6 @@
 // A program image as people read it: one line to a word, and one line at the end.
+#![tactic(auto)]
+
 pub mod endings;
 pub mod images;
 pub mod lines;

@@ -1,4 +1,6 @@
 // Lists the program image on standard input.
+#![tactic(auto)]
+
 use listing::write_listing;
 use std::io::{BufWriter, Read, Write};
 

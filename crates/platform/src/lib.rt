@@ -1,4 +1,6 @@
 // What a core stands on: its description, and the stores that its program is fetched from.
+#![tactic(auto)]
+
 pub mod byte_store;
 pub mod description;
 pub mod errors;

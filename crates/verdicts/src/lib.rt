@@ -1,4 +1,6 @@
 // Jobs with verdicts worked out by hand. It holds tests alone.
+#![tactic(auto)]
+
 #[cfg(test)]
 mod admitted;
 #[cfg(test)]

@@ -4,3 +4,4 @@ pub mod Laws
 pub mod Names
 pub mod Fitting
 pub mod Sound
+pub mod Same

@@ -2,6 +2,7 @@ pub mod Bits
 pub mod Codes
 pub mod Decoding
 pub mod Encoding
+pub mod Equality
 pub mod Examples
 pub mod Forms
 pub mod Laws

@@ -1,8 +1,7 @@
 // Every instruction of the table of words.
-ghost use Rattle.std.specs.Prelude.{◌≡◌, Decides};
+ghost use Rattle.std.specs.Prelude.{◌≡◌, Decides, nat_eq};
 ghost use Rattle.std.specs.Cmp.Rules.{comparing};
 ghost use Rattle.std.proofs.Common.{rules};
-ghost use Rattle.std.specs.Cmp as Keys;
 
 use crate::addresses::MemoryAddress;
 use crate::conditions::Condition;
@@ -66,13 +65,18 @@ pub enum Instruction {
     },
 }
 
-impl PartialEq for Instruction {
-    ghost equals = { λ x y r. Decides r (x ≡ y) };
+// What `==` on addresses answers, in the words of `eq` below.
+fn are_same(address: MemoryAddress, other: MemoryAddress) -> bool
+    ensures { Decides result (address ≡ other) }
+{
+    address == other
+}
 
-    ghost laws = { Keys.partial_equiv_from_equiv (Prim.search (comparing, rules)) };
-
-    fn eq(&self, other: &Instruction) -> bool {
-        match (*self, *other) {
+impl Instruction {
+    fn is_same_as(self, other: Instruction) -> bool
+        ensures { Decides result (self ≡ other) }
+    {
+        match (self, other) {
             (Instruction::Nop, Instruction::Nop) => true,
             (Instruction::Halt, Instruction::Halt) => true,
             (Instruction::Sflag, Instruction::Sflag) => true,
@@ -95,7 +99,7 @@ impl PartialEq for Instruction {
                     register: b1,
                     source: b2,
                 },
-            ) => a0 == b0 && a1 == b1 && a2 == b2,
+            ) => a0 == b0 && a1 == b1 && are_same(a2, b2),
             (
                 Instruction::AluImmediate {
                     operation: a0,
@@ -143,7 +147,7 @@ impl PartialEq for Instruction {
                     target: b0,
                     source: b1,
                 },
-            ) => a0 == b0 && a1 == b1,
+            ) => are_same(a0, b0) && a1 == b1,
             (
                 Instruction::StoreImmediate {
                     target: a0,
@@ -156,5 +160,22 @@ impl PartialEq for Instruction {
             ) => a0 == b0 && a1 == b1,
             _ => false,
         }
+    }
+}
+
+impl PartialEq for Instruction {
+    ghost use Rattle.std.specs.Ordering.{on};
+    ghost use Rattle.std.specs.Cmp.Lexicographic.{pointwise};
+    ghost use Rattle.words.specs.Equality.{numbers};
+
+    ghost eq = { on numbers (pointwise nat_eq) };
+
+    ghost laws = { Prim.search (comparing, rules) };
+
+    fn eq(&self, other: &Instruction) -> bool
+        ensures value { result ≡ on numbers (pointwise nat_eq) self.now other.now }
+        ensures decides { Decides result (self.now ≡ other.now) }
+    {
+        self.is_same_as(*other)
     }
 }

@@ -1,4 +1,6 @@
 // The words of the CoolRISC 816: instructions as types, and the way from a word to its instruction and back.
+#![tactic(auto)]
+
 pub mod addresses;
 pub mod conditions;
 pub mod decoder;

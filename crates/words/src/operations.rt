@@ -1,10 +1,9 @@
 // The operations of the ALU. One set serves all forms of instruction, so a form may lack an operation.
-ghost use Rattle.std.specs.Prelude.{◌≡◌, ◌<◌, Decides};
+ghost use Rattle.std.specs.Prelude.{◌≡◌, ◌<◌, Decides, nat_eq};
 ghost use Rattle.words.specs.Codes.{operation_code, operation};
 ghost use Rattle.words.specs.Forms.{one_source, has_form};
 ghost use Rattle.std.specs.Cmp.Rules.{comparing};
 ghost use Rattle.std.proofs.Common.{rules};
-ghost use Rattle.std.specs.Cmp as Keys;
 
 // The number of each variant is the code that names it in a word.
 #[derive(Clone, Copy, Eq, Debug)]
@@ -54,11 +53,15 @@ pub enum Form {
 }
 
 impl PartialEq for Operation {
-    ghost equals = { λ x y r. Decides r (x ≡ y) };
+    ghost use Rattle.std.specs.Ordering.{on};
 
-    ghost laws = { Keys.partial_equiv_from_equiv (Prim.search (comparing, rules)) };
+    ghost eq = { on operation_code nat_eq };
 
-    fn eq(&self, other: &Operation) -> bool {
+    ghost laws = { Prim.search (comparing, rules) };
+
+    fn eq(&self, other: &Operation) -> bool
+        ensures decides { Decides result (self.now ≡ other.now) }
+    {
         self.code() == other.code()
     }
 }

@@ -1,21 +1,28 @@
-use Rattle.std.proofs.Common.{Ok, sym, ap, ◌∙◌}
+use Rattle.std.proofs.Common.{◌≡◌, ℕ, Result, Ok, sym, ap, ◌∙◌}
 use Rattle.std.proofs.lemmas.Bool.{cond-true, cond-false}
 use Rattle.words.specs.Encoding.{encoded}
+use Rattle.words.specs.Laws.{Writes}
+use Rattle.words.specs.declared.errors.EncodeError.{EncodeError}
+use Rattle.words.specs.declared.instructions.Instruction.{Instruction}
 use Rattle.words.proofs.Laws.{writes}
 use Rattle.words.proofs.encoder.encode.Goals as goal
 
-pub returns-then-not-has-its-form : goal.returns-then-not-has-its-form
-unfolding encoded
-returns-then-not-has-its-form c = writes _ _ (sym (cond-false _ _ _ (sym c.has-its-form.ensures ∙ c.if-not-has-its-form.true)))
+-- what the contract says of an answer
+said : (i : Instruction) (r : Result ℕ EncodeError) → r ≡ encoded i → record { value : r ≡ encoded i; writes : Writes i r }
+said i r e = let both = writes i r e in record { value = both.0; writes = both.1 }
 
-pub returns-then-not-fields-fit : goal.returns-then-not-fields-fit
+pub returns-then-not-has_its_form : goal.returns-then-not-has_its_form
 unfolding encoded
-returns-then-not-fields-fit c =
-    writes _ _
-    (sym (cond-true _ _ _ (sym c.has-its-form.ensures ∙ c.if-not-has-its-form.false) ∙ cond-false _ _ _ (sym c.fields-fit.ensures ∙ c.if-not-fields-fit.true)))
+returns-then-not-has_its_form c = said _ _ (sym (cond-false _ _ _ (sym c.has_its_form.ensures ∙ c.if-not-has_its_form.true)))
+
+pub returns-then-not-fields_fit : goal.returns-then-not-fields_fit
+unfolding encoded
+returns-then-not-fields_fit c =
+    said _ _
+    (sym (cond-true _ _ _ (sym c.has_its_form.ensures ∙ c.if-not-has_its_form.false) ∙ cond-false _ _ _ (sym c.fields_fit.ensures ∙ c.if-not-fields_fit.true)))
 
 pub returns : goal.returns
 unfolding encoded
 returns c =
-    writes _ _
-    (ap Ok c.word-of.ensures ∙ sym (cond-true _ _ _ (sym c.has-its-form.ensures ∙ c.if-not-has-its-form.false) ∙ cond-true _ _ _ (sym c.fields-fit.ensures ∙ c.if-not-fields-fit.false)))
+    said _ _
+    (ap Ok c.word_of.ensures ∙ sym (cond-true _ _ _ (sym c.has_its_form.ensures ∙ c.if-not-has_its_form.false) ∙ cond-true _ _ _ (sym c.fields_fit.ensures ∙ c.if-not-fields_fit.false)))

@@ -6,4 +6,4 @@ use Rattle.words.proofs.examples.worked_examples.Goals as goal
 -- antt computes both ways
 pub returns : goal.returns
 unfolding decoded encoded
-returns c = (refl, (refl, refl, (refl, refl, (refl, refl, tt))))
+returns c = (record { value = refl; all_stand = (refl, refl, (refl, refl, (refl, refl, tt))) })

@@ -9,5 +9,5 @@ returns c =
     let bytes = c.args.bytes.now in
     let n = length bytes / 3 in
     let whole = eq-eqb (length bytes % 3) 0 c.if-bytes-ne0.false in
-    let is : c.test-numbers.result ≡ bytes_tested bytes = c.test-numbers.ensures ∙ sym (ap (λ b. tested_if (b && count_fits n) n (formed bytes)) whole) in
-    (is, tested_bytes bytes c.test-numbers.result is)
+    let is : c.test_numbers.result ≡ bytes_tested bytes = c.test_numbers.ensures ∙ sym (ap (λ b. tested_if (b && count_fits n) n (formed bytes)) whole) in
+    (record { value = is; tests = tested_bytes bytes c.test_numbers.result is })
