@@ -1,18 +1,18 @@
 -- The records that are found for the background and the levels are the only ones of their kinds.
 -- Assumes nothing.
-use Rattle.std.proofs.Common.{◌≡◌, ℕ, zero, suc, ◌+◌, ◌<◌, ◌≤◌, Bool, true, false, cond, not, ◌&&◌, ◌||◌, eqb, leb, ◌⊎◌, List, [], ◌∷◌, get_or, is_some, Some, None, Decides, Option, sym, refl, ap, ◌∙◌, subst, inl, inr, ⊎_elim, arith}
+use Rattle.std.proofs.Common.{◌≡◌, ℕ, zero, suc, ◌+◌, ◌<◌, Bool, true, false, cond, ◌⊎◌, List, [], ◌∷◌, is_some, Some, None, Decides, Option, sym, refl, ap, ◌∙◌, subst, inl, inr, ⊎_elim, arith}
 use borrow.Author.Tests.{clash}
-use Rattle.std.proofs.lemmas.Bool.{and_parts, and_from, or_cases, or_parts, not-true, cases_eq, cases_order, cases_Bool}
+use Rattle.std.proofs.lemmas.Bool.{cases_eq, cases_order}
 use Rattle.std.proofs.lemmas.Bool.Decides.{Decides-eqb, Decides-and, Decides-or, Decides-not, not_from_Decides}
 use Rattle.platform.specs.Description.{vector, InLimits}
 use Rattle.platform.specs.Lowest.{lowest}
 use Rattle.platform.proofs.Search.{none_from, none_gives, some_gives}
 use Rattle.admission.specs.Admission.{roles}
-use Rattle.admission.specs.Chain.{Chained, chained}
+use Rattle.admission.specs.Chain.{Chained}
 use Rattle.admission.specs.Program.{Program}
-use Rattle.admission.specs.Roles.{is, in_role, found, level, stray, strays, unless_stray, joint, roles_of, deepest}
+use Rattle.admission.specs.Roles.{in_role, found, level, stray, strays, joint}
 use Rattle.admission.specs.Rules.{Routine, Entered}
-use Rattle.admission.specs.Tables.{records, entry, kind, need}
+use Rattle.admission.specs.Tables.{records, entry, kind}
 use Rattle.admission.specs.declared.kinds.Kind.{Kind}
 use Rattle.admission.specs.declared.kinds.Kind.TheVariants.{Background, Interrupt}
 use Rattle.admission.specs.declared.roles.Roles.{Roles}

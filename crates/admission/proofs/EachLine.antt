@@ -1,6 +1,6 @@
 -- What the loop over the lines finds, by one rule.
 -- Assumes nothing.
-use Rattle.std.proofs.Common.{◌≡◌, ℕ, ◌+◌, ◌<◌, Bool, not, [], ◌∷◌, length, is_ok, Some, None, Ok, Err, Result, unwrap_or, sym, refl, ap, ◌∙◌}
+use Rattle.std.proofs.Common.{◌≡◌, ℕ, ◌+◌, ◌<◌, Bool, not, [], ◌∷◌, length, is_ok, None, Ok, Err, Result, unwrap_or, sym, ap, ◌∙◌}
 use Rattle.std.specs.Result.{result_err}
 use Rattle.platform.specs.Lowest.{lowest}
 use Rattle.platform.proofs.Search.{none_more, found}

@@ -1,8 +1,7 @@
 -- What admission answers is what the rules say.
 -- Assumes nothing.
-use Rattle.std.proofs.Common.{◌≡◌, ℕ, ◌-◌, ◌<◌, ◌≤◌, Bool, true, false, cond, not, eqb, ◌⊎◌, ◌↔◌, List, [], ◌∷◌, length, get_or, Some, None, Ok, Err, Option, Result, unwrap_or, sym, refl, ap, ◌∙◌, subst, inl, inr, ⊎_elim, arith}
-use borrow.Author.Tests.{clash}
-use Rattle.std.proofs.lemmas.Bool.{cases_order, cases_eq, cond-true, cond-false, eq-eqb, ne_eqb}
+use Rattle.std.proofs.Common.{◌≡◌, ℕ, ◌-◌, ◌<◌, ◌≤◌, Bool, true, false, cond, not, eqb, ◌↔◌, List, get_or, Some, None, Ok, Err, Option, Result, unwrap_or, sym, refl, ap, ◌∙◌, subst, ⊎_elim, arith}
+use Rattle.std.proofs.lemmas.Bool.{cases_order, cond-false, ne_eqb}
 use Rattle.std.specs.Result.{result_err}
 use Rattle.words.specs.Decoding.{decoded}
 use Rattle.words.specs.declared.errors.DecodeError.{DecodeError}
@@ -11,16 +10,15 @@ use Rattle.platform.specs.Description.{in_limits}
 use Rattle.admission.specs.Admission.{roles, breach, fault, unless_at, checked, depth_of, admission}
 use Rattle.admission.specs.Chain.{broken_link}
 use Rattle.admission.specs.Instructions.{flow, permitted}
-use Rattle.admission.specs.Laws.{Before, AllHold, FirstBreak, Judges}
+use Rattle.admission.specs.Laws.{AllHold, FirstBreak, Judges}
 use Rattle.admission.specs.Program.{Program}
 use Rattle.admission.specs.Refusals.{rules, later_rules, rule_number, broken_rule, refusal}
-use Rattle.admission.specs.Rules.{Entered, Holds, Deepest}
+use Rattle.admission.specs.Rules.{Holds, Deepest}
 use Rattle.admission.specs.Tables.{line}
-use Rattle.admission.specs.Tests.{sized, unless, word_checked, if_defined, owned_checked, line_checked, line_breach}
+use Rattle.admission.specs.Tests.{sized, unless, word_checked, if_defined, owned_checked, line_breach}
 use Rattle.admission.specs.declared.faults.Breach.{Breach}
 use Rattle.admission.specs.declared.faults.Breach.TheVariants.{Broken, Undefined}
 use Rattle.admission.specs.declared.faults.Fault.{Fault}
-use Rattle.admission.specs.declared.roles.Roles.{Roles}
 use Rattle.admission.specs.declared.rules.LineRule.{LineRule}
 use Rattle.admission.specs.declared.rules.LineRule.TheVariants.{Owner, Word, StackUse, Successors, Callee, StatWrite}
 use Rattle.admission.specs.declared.rules.RecordRule.TheVariants.{Kinds, EntryLines}
@@ -274,8 +272,12 @@ module _ (P : Program) where
   unfolding admission
   judges r e = ⊎_elim (λ h. judges_all r h.0 (e ∙ h.1)) (λ h. judges_break r h.0 h.1 h.2 (e ∙ h.3)) answered
 
-  pub answers : (r : Answer) → r ≡ admission P → (r ≡ admission P) × Judges P r
-  answers r e = (e, judges r e)
+  -- what the contract of `admit` says of an answer
+  abbrev pub Promised : Answer → Type 0
+  Promised r = record { value : r ≡ admission P; judges : Judges P r }
+
+  pub answers : (r : Answer) → r ≡ admission P → Promised r
+  answers r e = record { value = e; judges = judges r e }
 
   -- The first three rules, as they are checked.
 
@@ -290,7 +292,7 @@ module _ (P : Program) where
   at_once b rule rest = unless_at (cond (not b) (Some 0) None) (fault rule P) rest
 
   module _ (r : Answer) where
-    pub out_of_limits : in_limits P.description ≡ false → r ≡ Err (fault Description P 0) → (r ≡ admission P) × Judges P r
+    pub out_of_limits : in_limits P.description ≡ false → r ≡ Err (fault Description P 0) → Promised r
     unfolding admission
     out_of_limits l e = answers r (e ∙ sym (ap (λ b. at_once b Description (at_once (sized P.count P.table L) Sizes from_chain)) l))
 
@@ -299,15 +301,15 @@ module _ (P : Program) where
       unfolding admission
       in_limits_lem = sym (ap (λ b. at_once b Description (at_once (sized P.count P.table L) Sizes from_chain)) l)
 
-      pub missized : sized P.count P.table L ≡ false → r ≡ Err (fault Sizes P 0) → (r ≡ admission P) × Judges P r
+      pub missized : sized P.count P.table L ≡ false → r ≡ Err (fault Sizes P 0) → Promised r
       missized s e = answers r (e ∙ sym (ap (λ b. at_once b Sizes from_chain) s) ∙ in_limits_lem)
 
       module _ (s : sized P.count P.table L ≡ true) where
         from_sizes : from_chain ≡ admission P
         from_sizes = sym (ap (λ b. at_once b Sizes from_chain) s) ∙ in_limits_lem
 
-        pub unchained : (p : ℕ) → broken_link P.table ≡ Some p → r ≡ Err (fault Chain P p) → (r ≡ admission P) × Judges P r
+        pub unchained : (p : ℕ) → broken_link P.table ≡ Some p → r ≡ Err (fault Chain P p) → Promised r
         unchained p b e = answers r (e ∙ sym (ap (λ o. unless_at o (fault Chain P) later) b) ∙ from_sizes)
 
-        pub chained_well : broken_link P.table ≡ None → r ≡ later → (r ≡ admission P) × Judges P r
+        pub chained_well : broken_link P.table ≡ None → r ≡ later → Promised r
         chained_well b e = answers r (e ∙ sym (ap (λ o. unless_at o (fault Chain P) later) b) ∙ from_sizes)

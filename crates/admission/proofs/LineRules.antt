@@ -1,26 +1,26 @@
 -- The tests of the rules of lines decide what the rules say.
 -- Assumes nothing.
-use Rattle.std.proofs.Common.{◌≡◌, ℕ, ◌+◌, ◌*◌, ◌/◌, ◌<◌, ◌≤◌, Bool, true, false, cond, not, ◌&&◌, ◌||◌, eqb, ltb, leb, ◌⊎◌, List, is_ok, Some, None, Ok, Err, Decides, Option, Result, sym, refl, ap, ◌∙◌, subst, inl, inr, ⊎_elim, arith}
+use Rattle.std.proofs.Common.{◌≡◌, ℕ, ◌+◌, ◌*◌, ◌<◌, ◌≤◌, Bool, true, false, cond, not, ◌&&◌, ◌||◌, eqb, ◌⊎◌, List, is_ok, Some, None, Ok, Err, Decides, Option, Result, sym, refl, ap, ◌∙◌, subst, inl, inr, ⊎_elim, arith}
 use borrow.Author.Tests.{clash}
-use Rattle.std.proofs.lemmas.Bool.{and_parts, and_from, or_cases, or_left, or_right, not_from_false, cases_Bool, cond-false, cond-true, eq-eqb, eqb-true, ne_eqb, cases_eq}
+use Rattle.std.proofs.lemmas.Bool.{and_parts, and_from, or_cases, or_left, or_right, not_from_false, cases_Bool, cond-false, cond-true, eq-eqb, ne_eqb, cases_eq}
 use Rattle.std.proofs.lemmas.Bool.Decides.{Decides-at, Decides-eqb, Decides-ltb, Decides-and, Decides-or, Decides-not, Decides-like}
 use Rattle.words.specs.Decoding.{decoded}
 use Rattle.words.specs.declared.conditions.Condition.{Condition}
 use Rattle.words.specs.declared.conditions.Condition.TheVariants.{CarryClear, OverflowClear, ZeroClear, Always, CarrySet, OverflowSet, ZeroSet, Event}
 use Rattle.words.specs.declared.errors.DecodeError.{DecodeError}
 use Rattle.words.specs.declared.instructions.Instruction.{Instruction}
-use Rattle.words.specs.declared.instructions.Instruction.TheVariants.{Push, Pop, Ret, Reti, Jump, Call, Calls}
+use Rattle.words.specs.declared.instructions.Instruction.TheVariants.{Push, Pop, Ret, Reti, Jump, Call}
 use Rattle.words.specs.declared.instructions.Target.{Target}
 use Rattle.words.specs.declared.instructions.Target.TheVariants.{Address, Ip}
 use Rattle.words.specs.declared.registers.Register.{Register}
 use Rattle.words.specs.declared.registers.Register.TheVariants.{I0l, I0h, I1l, I1h, I2l, I2h, I3l, I3h, Ipl, Iph, Stat, R3, R2, R1, R0, A}
-use Rattle.admission.specs.Chain.{Chained, chained}
-use Rattle.admission.specs.Instructions.{Flow, plain, push, pop, ret, reti, jump, call, calls, flow, permitted, unconditional, goes_on, jump_target, call_target, destination}
+use Rattle.admission.specs.Chain.{Chained}
+use Rattle.admission.specs.Instructions.{Flow, plain, push, pop, ret, reti, jump, call, calls, flow, permitted, goes_on, jump_target, call_target, destination}
 use Rattle.admission.specs.Program.{Program}
 use Rattle.admission.specs.Roles.{is}
 use Rattle.admission.specs.Rules.{Owned, SoundOwner, At, Permitted, SoundStack, Leads, Leaves, GoesOn, SoundSuccessors, MayCall, SoundCall, WritesStat, EntryLine, kind_at, height_at, owner_of}
 use Rattle.admission.specs.Tables.{entry, kind, need, line, owner, height}
-use Rattle.admission.specs.Tests.{owner_sound, stack_sound, moves, leads, if_some, next_sound, target_sound, may_call, callable, callee_sound, call_sound, is_stat, writes_stat, stat_sound, unless, word_checked, instruction_sound, if_defined, owned_checked, line_checked}
+use Rattle.admission.specs.Tests.{owner_sound, stack_sound, moves, leads, if_some, next_sound, target_sound, may_call, callable, callee_sound, call_sound, is_stat, writes_stat, stat_sound, word_checked, if_defined, owned_checked, line_checked}
 use Rattle.admission.specs.declared.faults.Breach.{Breach}
 use Rattle.admission.specs.declared.kinds.Kind.{Kind}
 use Rattle.admission.specs.declared.kinds.Kind.TheVariants.{Background, Quiet, Interrupt, Open}

@@ -1,30 +1,23 @@
 -- What the rules are tested by decides what they say, and the first one that is broken is found.
 -- Assumes nothing.
-use Rattle.std.proofs.Common.{◌≡◌, ℕ, zero, suc, ◌+◌, ◌-◌, ◌*◌, ◌%◌, ◌<◌, ◌≤◌, max, Bool, true, false, cond, not, ◌&&◌, ◌||◌, eqb, ltb, leb, ◌⊎◌, ◌↔◌, List, [], ◌∷◌, length, get_or, is_some, is_ok, Some, None, Ok, Err, Decides, Option, Result, unwrap_or, sym, refl, ap, ◌∙◌, subst, inl, inr, ⊎_elim, arith, rules}
+use Rattle.std.proofs.Common.{◌≡◌, ℕ, zero, suc, ◌+◌, ◌*◌, ◌%◌, ◌<◌, ◌≤◌, max, Bool, false, not, leb, ◌⊎◌, List, [], ◌∷◌, length, Some, None, Err, Decides, Option, Result, sym, refl, ap, ◌∙◌, subst, inl, inr, ⊎_elim, arith, rules as steps}
 use borrow.Author.Tests.{clash}
-use Rattle.std.proofs.lemmas.Bool.{and_parts, and_from, not-true, not-false, not_from_true, not_from_false, cases_lt, cases_order, cases_eq, cond-true, cond-false, eq-eqb, ne_eqb}
+use Rattle.std.proofs.lemmas.Bool.{not-true, not-false, cases_lt, cases_eq}
 use Rattle.std.proofs.lemmas.Bool.Decides.{Decides-at, Decides-eqb, Decides-ltb, Decides-and, Decides-or, Decides-not, Decides-like}
-use Rattle.std.specs.Result.{result_err}
-use Rattle.words.specs.Decoding.{decoded}
-use Rattle.words.specs.declared.errors.DecodeError.{DecodeError}
-use Rattle.words.specs.declared.instructions.Instruction.{Instruction}
 use Rattle.platform.specs.Description.{in_limits, InLimits}
-use Rattle.platform.specs.Lowest.{lowest}
 use Rattle.platform.specs.declared.description.CoreDescription.{CoreDescription}
-use Rattle.platform.proofs.Search.{none_from, none_gives, some_from, some_gives}
-use Rattle.admission.specs.Admission.{places, roles, fits, sound, broken, breach, fault, unless_at, checked, depth_of, admission}
-use Rattle.admission.specs.Chain.{OnChain, Chained, chained, on_chain, linked, link_sound, broken_link}
-use Rattle.admission.specs.Laws.{Before, AllHold, FirstBreak, Judges}
+use Rattle.platform.proofs.Search.{none_gives, some_gives}
+use Rattle.admission.specs.Admission.{places, roles, fits, sound, broken, fault, unless_at, checked}
+use Rattle.admission.specs.Chain.{OnChain, linked}
+use Rattle.admission.specs.Laws.{Before, AllHold, FirstBreak}
 use Rattle.admission.specs.Program.{Program}
-use Rattle.admission.specs.Refusals.{rules, later_rules, rule_number, broken_rule, breach_number, fault_log, refusal}
+use Rattle.admission.specs.Refusals.{rule_number}
 use Rattle.admission.specs.Roles.{level, deepest}
-use Rattle.admission.specs.Rules.{Routine, Sized, Linked, KnownKind, Entered, EntryLine, Owned, FitsDepth, Holds, Deepest}
+use Rattle.admission.specs.Rules.{Routine, Sized, Linked, Entered, Owned, FitsDepth, Holds, Deepest}
 use Rattle.admission.specs.Tables.{records, entry, kind, need, next, line}
-use Rattle.admission.specs.Tests.{sized, unless, word_checked, if_defined, owned_checked, line_checked, line_breach}
-use Rattle.admission.specs.declared.faults.Breach.{Breach}
-use Rattle.admission.specs.declared.faults.Breach.TheVariants.{Broken, Undefined}
+use Rattle.admission.specs.Tests.{sized}
 use Rattle.admission.specs.declared.faults.Fault.{Fault}
-use Rattle.admission.specs.declared.kinds.Kind.TheVariants.{Background, Interrupt}
+use Rattle.admission.specs.declared.kinds.Kind.TheVariants.{Interrupt}
 use Rattle.admission.specs.declared.roles.Roles.{Roles}
 use Rattle.admission.specs.declared.rules.LineRule.{LineRule}
 use Rattle.admission.specs.declared.rules.LineRule.TheVariants.{Owner, Word, StackUse, Successors, Callee, StatWrite}
@@ -37,7 +30,7 @@ use Rattle.admission.proofs.Deciding.{decides_leb, decides_implies, decides_unde
 use Rattle.admission.proofs.LineRules.{owner_decided, word_decided, stack_decided, successors_decided, call_decided, stat_decided}
 
 limits_decided : (d : CoreDescription) → Decides (in_limits d) (InLimits d)
-limits_decided d = search rules
+limits_decided d = search steps
 
 module _ (P : Program) where
   abbrev pub T : List ℕ

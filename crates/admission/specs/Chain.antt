@@ -1,6 +1,6 @@
 -- The chain of records: which of them the table uses.
 -- Assumes nothing.
-use Rattle.std.specs.Prelude.{◌≡◌, ℕ, zero, suc, ◌+◌, ◌<◌, ◌≤◌, Bool, true, false, cond, not, ◌&&◌, ◌||◌, List, Option, ◌==◌, nat_le, nat_lt, slice_index_or}
+use Rattle.std.specs.Prelude.{◌≡◌, ℕ, zero, suc, ◌+◌, ◌<◌, ◌≤◌, Bool, false, cond, not, ◌&&◌, ◌||◌, List, Option, ◌==◌, nat_le, nat_lt, slice_index_or}
 use Rattle.platform.specs.Lowest.{lowest}
 use Rattle.admission.specs.Tables.{records, next}
 

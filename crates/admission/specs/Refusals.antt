@@ -4,9 +4,7 @@ use Rattle.std.specs.Prelude.{ℕ, List, [], ◌∷◌, ◌++◌, Some, None, Ok
 use Rattle.admission.specs.declared.faults.Breach.{Breach}
 use Rattle.admission.specs.declared.faults.Breach.TheVariants.{Broken, Undefined}
 use Rattle.admission.specs.declared.faults.Fault.{Fault}
-use Rattle.admission.specs.declared.rules.LineRule.{LineRule}
 use Rattle.admission.specs.declared.rules.LineRule.TheVariants.{Owner, Word, StackUse, Successors, Callee, StatWrite}
-use Rattle.admission.specs.declared.rules.RecordRule.{RecordRule}
 use Rattle.admission.specs.declared.rules.RecordRule.TheVariants.{Kinds, EntryLines}
 use Rattle.admission.specs.declared.rules.Rule.{Rule}
 use Rattle.admission.specs.declared.rules.Rule.TheVariants.{Description, Sizes, Chain, Record, Entries, Line, Depth}

@@ -1,6 +1,6 @@
 -- Which records are the background and the three interrupt routines.
 -- Assumes nothing.
-use Rattle.std.specs.Prelude.{ℕ, ◌+◌, max, Bool, true, false, cond, not, ◌&&◌, ◌||◌, List, [], ◌∷◌, is_some, Some, None, Option, ◌==◌, slice_index}
+use Rattle.std.specs.Prelude.{ℕ, ◌+◌, max, Bool, false, cond, not, ◌&&◌, ◌||◌, List, [], ◌∷◌, is_some, Some, None, Option, ◌==◌, slice_index}
 use Rattle.platform.specs.Lowest.{lowest}
 use Rattle.admission.specs.Chain.{chained}
 use Rattle.admission.specs.Tables.{records, entry, kind, need}

@@ -1,6 +1,6 @@
 -- The thirteen rules, each as what it says of a place: a record's index, an address, or 0 where a rule has no places.
 -- Assumes nothing.
-use Rattle.std.specs.Prelude.{◌≡◌, ℕ, ◌+◌, ◌*◌, ◌<◌, ◌≤◌, ◌⊎◌, List, length, Some, None, Ok, Option, ◌≢◌}
+use Rattle.std.specs.Prelude.{◌≡◌, ℕ, ◌+◌, ◌*◌, ◌<◌, ◌≤◌, ◌⊎◌, length, Some, Ok, Option, ◌≢◌}
 use Rattle.words.specs.Decoding.{decoded}
 use Rattle.words.specs.declared.conditions.Condition.{Condition}
 use Rattle.words.specs.declared.conditions.Condition.TheVariants.{Always}

@@ -1,6 +1,6 @@
 -- The depth table, number by number, and the lines of the words.
 -- Assumes nothing.
-use Rattle.std.specs.Prelude.{ℕ, ◌+◌, ◌-◌, ◌*◌, ◌/◌, ◌%◌, cond, List, length, Some, None, Option, ◌==◌, slice_index}
+use Rattle.std.specs.Prelude.{ℕ, ◌-◌, ◌*◌, ◌/◌, ◌%◌, cond, List, length, Some, None, Option, ◌==◌, slice_index}
 use Rattle.admission.specs.declared.kinds.Kind.{Kind}
 use Rattle.admission.specs.declared.kinds.Kind.TheVariants.{Background, Quiet, Interrupt, Open}
 

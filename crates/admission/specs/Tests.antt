@@ -21,8 +21,7 @@ use Rattle.admission.specs.declared.rules.LineRule.{LineRule}
 use Rattle.admission.specs.declared.rules.LineRule.TheVariants.{Owner, Word, StackUse, Successors, Callee, StatWrite}
 use Rattle.admission.specs.declared.rules.RecordRule.{RecordRule}
 use Rattle.admission.specs.declared.rules.RecordRule.TheVariants.{Kinds, EntryLines}
-use Rattle.admission.specs.declared.rules.Rule.{Rule}
-use Rattle.admission.specs.declared.rules.Rule.TheVariants.{Description, Sizes, Chain, Record, Entries, Line, Depth}
+use Rattle.admission.specs.declared.rules.Rule.TheVariants.{Line}
 
 abbrev pub sized : ℕ → List ℕ → List ℕ → Bool
 sized n T L = (length T % 4 == 1 && (nat_le 1 (records T) && nat_le (records T) 255)) && length L == n

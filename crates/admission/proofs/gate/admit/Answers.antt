@@ -1,32 +1,32 @@
 use Rattle.std.proofs.Common.{◌≡◌, Err, sym, ap, ◌∙◌}
 use Rattle.std.proofs.lemmas.Result.{err_from_is_err_and}
 use Rattle.admission.specs.Admission.{fault}
-use Rattle.admission.specs.Program.{Program, program}
+use Rattle.admission.specs.Program.{program}
 use Rattle.admission.specs.Tests.{sized}
 use Rattle.admission.specs.declared.rules.Rule.TheVariants.{Chain}
 use Rattle.admission.proofs.Judging.{later, out_of_limits, missized, unchained, chained_well}
 use Rattle.admission.proofs.gate.admit.Goals as goal
 
-pub returns-then-not-is-in-limits : goal.returns-then-not-is-in-limits
-returns-then-not-is-in-limits g c =
+pub returns-then-not-is_in_limits : goal.returns-then-not-is_in_limits
+returns-then-not-is_in_limits g c =
     let P = program c.args.description (g.S.Store.count c.args.store.now) (g.S.Store.word c.args.store.now) c.args.table.now c.args.lines.now in
-    out_of_limits P (Err c.fault-of.result) (sym c.if-not-is-in-limits.ensures.0) (ap Err c.fault-of.ensures)
+    out_of_limits P (Err c.fault_of.result) (sym c.if-not-is_in_limits.ensures.value) (ap Err c.fault_of.ensures)
 
-pub returns-then-not-has-sizes : goal.returns-then-not-has-sizes
-returns-then-not-has-sizes g c =
+pub returns-then-not-has_sizes : goal.returns-then-not-has_sizes
+returns-then-not-has_sizes g c =
     let P = program c.args.description (g.S.Store.count c.args.store.now) (g.S.Store.word c.args.store.now) c.args.table.now c.args.lines.now in
-    let count = ap (λ n. sized n P.table P.lines) c.word-count-count.ensures.value in
-    missized P (Err c.fault-of-then-not-has-sizes.result) (sym c.if-not-is-in-limits.ensures.0) (sym count ∙ sym c.if-not-has-sizes.ensures) (ap Err c.fault-of-then-not-has-sizes.ensures)
+    let count = ap (λ n. sized n P.table P.lines) c.word_count-count.ensures.value in
+    missized P (Err c.fault_of-then-not-has_sizes.result) (sym c.if-not-is_in_limits.ensures.value) (sym count ∙ sym c.if-not-has_sizes.ensures) (ap Err c.fault_of-then-not-has_sizes.ensures)
 
-pub returns-in-err-marks : goal.returns-in-err-marks
-returns-in-err-marks g c =
+pub returns-in_err-marks : goal.returns-in_err-marks
+returns-in_err-marks g c =
     let P = program c.args.description (g.S.Store.count c.args.store.now) (g.S.Store.word c.args.store.now) c.args.table.now c.args.lines.now in
-    let count = ap (λ n. sized n P.table P.lines) c.word-count-count.ensures.value in
-    let f = c.in-err-marks.field-0.0 in
-    let walked = c.in-err-marks.ensures in
-    let back = err_from_is_err_and c.from-residual.result c.from-residual.ensures.1 in
+    let count = ap (λ n. sized n P.table P.lines) c.word_count-count.ensures.value in
+    let f = c.in_err-marks.field-0.0 in
+    let walked = c.in_err-marks.ensures in
+    let back = err_from_is_err_and c.from_residual.result c.from_residual.ensures.1 in
     let same : f ≡ fault Chain P f.place = ap (λ b. record { breach = b; place = f.place }) walked.0 in
-    unchained P c.from-residual.result (sym c.if-not-is-in-limits.ensures.0) (sym count ∙ sym c.if-not-has-sizes.ensures) f.place walked.1 (back.1 ∙ ap Err (back.2 ∙ same))
+    unchained P c.from_residual.result (sym c.if-not-is_in_limits.ensures.value) (sym count ∙ sym c.if-not-has_sizes.ensures) f.place walked.1 (back.1 ∙ ap Err (back.2 ∙ same))
 
 pub returns : goal.returns
 returns g c =
@@ -35,6 +35,6 @@ returns g c =
     let T = c.args.table.now in
     let L = c.args.lines.now in
     let P = program d (g.S.Store.count c.args.store.now) word T L in
-    let count = ap (λ n. sized n T L) c.word-count-count.ensures.value in
-    let same = ap (λ n. later (program d n word T L)) c.word-count-count.ensures.value in
-    chained_well P c.judge.result (sym c.if-not-is-in-limits.ensures.0) (sym count ∙ sym c.if-not-has-sizes.ensures) c.in-ok-marks.ensures.1 (c.judge.ensures ∙ same)
+    let count = ap (λ n. sized n T L) c.word_count-count.ensures.value in
+    let same = ap (λ n. later (program d n word T L)) c.word_count-count.ensures.value in
+    chained_well P c.judge.result (sym c.if-not-is_in_limits.ensures.value) (sym count ∙ sym c.if-not-has_sizes.ensures) c.in_ok-marks.ensures.1 (c.judge.ensures ∙ same)
