@@ -1,6 +1,6 @@
 -- What a program image holds, and what there is to say of it at the end.
 -- Assumes nothing.
-use Rattle.std.specs.Prelude.{◌≡◌, ℕ, zero, suc, ◌+◌, ◌*◌, ◌/◌, ◌%◌, ◌^◌, cond, List, length, is_ok, ◌==◌, ◌≢◌, slice_index}
+use Rattle.std.specs.Prelude.{ℕ, zero, suc, ◌+◌, ◌*◌, ◌/◌, ◌%◌, ◌^◌, cond, List, length, is_ok, ◌==◌, ◌≢◌, slice_index}
 use Rattle.words.specs.Decoding.{decoded}
 use Rattle.listing.specs.declared.endings.Ending.{Ending}
 use Rattle.listing.specs.declared.endings.Ending.TheVariants.{Counted, LeftOver}

@@ -6,5 +6,5 @@ use Rattle.listing.proofs.images.ending.Goals as goal
 
 pub returns : goal.returns
 returns c =
-    let counted : Counted c.word-count.result c.refused-words.result ≡ ending_of c.args.image.now = search rules in
-    ended c.args.image.now (Counted c.word-count.result c.refused-words.result) counted
+    let counted : Counted c.word_count.result c.refused_words.result ≡ ending_of c.args.image.now = search rules in
+    ended c.args.image.now (Counted c.word_count.result c.refused_words.result) counted
