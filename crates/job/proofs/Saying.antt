@@ -112,7 +112,7 @@ module _ (job : List ℕ) where
       by : (b : Bool) → well_sized job ≡ b → (r : Result (Unit {0}) StoreError) → bytes_tested (word_bytes job) ≡ r → Says job (cond b (stored r (ruled (admission (program_of job)))) (Refused Length))
       by false s r at = says_length (λ h. clash (sym s ∙ (decides_sized job).1 h))
       by true s (Err e) at = says_store ((decides_sized job).0 s) e at
-      by true s (Ok u) at = says_rules ((decides_sized job).0 s) at (admission (program_of job)) (answers (program_of job) (admission (program_of job)) refl).1
+      by true s (Ok u) at = says_rules ((decides_sized job).0 s) at (admission (program_of job)) (answers (program_of job) (admission (program_of job)) refl).judges
 
   pub saying : (v : Verdict) → v ≡ verdict_of job → (v ≡ verdict_of job) × Says job v
   saying v e = (e, subst (Says job) (sym e) says)

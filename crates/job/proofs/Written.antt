@@ -1,14 +1,14 @@
 -- What is read from a job is what was written.
 -- Assumes nothing.
-use Rattle.std.proofs.Common.{◌≡◌, ℕ, zero, suc, ◌+◌, ◌*◌, ◌/◌, ◌%◌, ◌<◌, ◌≤◌, cond, ltb, List, [], ◌∷◌, ◌++◌, map, length, get_or, take, drop, sym, refl, ap, ◌∙◌, subst, ⊎_elim, not-suc-le-zero, arith}
+use Rattle.std.proofs.Common.{◌≡◌, ℕ, zero, suc, ◌+◌, ◌*◌, ◌/◌, ◌<◌, List, [], ◌∷◌, ◌++◌, length, get_or, take, drop, sym, refl, ap, ◌∙◌, ⊎_elim, not-suc-le-zero, arith}
 use mathlib.Core.Path.{fun_ext}
 use Rattle.std.proofs.lemmas.List.FromFn.{fill_by_all}
-use Rattle.std.proofs.lemmas.List.{length-append, take_at, drop_at, drop-drop, get_or_past}
+use Rattle.std.proofs.lemmas.List.{take_at, drop_at, drop-drop, get_or_past}
 use Rattle.std.proofs.lemmas.Bool.{cases_lt, cond-true, cond-false, lt-ltb, le-ltb}
-use Rattle.std.specs.List.{range_with_len, flat_map}
+use Rattle.std.specs.List.{flat_map}
 use Rattle.platform.specs.Stores.{listed, big_endian, formed}
-use Rattle.admission.specs.Program.{Program, program}
-use Rattle.job.specs.Jobs.{number_at, numbers, word_count, table_count, table_start, lines_start, description_in, word_bytes, table_bytes, line_bytes, program_of}
+use Rattle.admission.specs.Program.{program}
+use Rattle.job.specs.Jobs.{number_at, numbers, word_count, table_count, table_start, description_in, word_bytes, table_bytes, line_bytes, program_of}
 use Rattle.job.specs.Laws.{ReadsBack}
 use Rattle.job.specs.Writing.{two_bytes, three_bytes, describes, written, meant}
 

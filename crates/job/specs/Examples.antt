@@ -1,7 +1,7 @@
 -- A program of nine words with its depth table, worked out by hand: the background calls a routine that pushes a word and
 -- takes it back, and the interrupt routines return at once.
 -- Assumes nothing.
-use Rattle.std.specs.Prelude.{◌≡◌, ℕ, List, [], ◌∷◌, length, Some, Ok, slice_index}
+use Rattle.std.specs.Prelude.{◌≡◌, ℕ, List, [], ◌∷◌, Some, Ok, slice_index}
 use Rattle.admission.specs.Admission.{admission}
 use Rattle.admission.specs.Program.{Program, program}
 use Rattle.admission.specs.Refusals.{refusal}

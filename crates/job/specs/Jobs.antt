@@ -9,7 +9,6 @@ use Rattle.platform.specs.declared.errors.StoreError.{StoreError}
 use Rattle.admission.specs.Admission.{admission}
 use Rattle.admission.specs.Program.{Program, program}
 use Rattle.admission.specs.declared.faults.Fault.{Fault}
-use Rattle.job.specs.declared.verdicts.Refusal.{Refusal}
 use Rattle.job.specs.declared.verdicts.Refusal.TheVariants.{Length, Store, Rule}
 use Rattle.job.specs.declared.verdicts.Verdict.{Verdict}
 use Rattle.job.specs.declared.verdicts.Verdict.TheVariants.{Admitted, Refused}

@@ -2,7 +2,6 @@
 -- Assumes nothing.
 use Rattle.std.specs.Prelude.{ℕ, List, ◌++◌, codes, decimal}
 use Rattle.job.specs.Refusals.{refusal_number, refusal_place}
-use Rattle.job.specs.declared.verdicts.Refusal.{Refusal}
 use Rattle.job.specs.declared.verdicts.Verdict.{Verdict}
 use Rattle.job.specs.declared.verdicts.Verdict.TheVariants.{Admitted, Refused}
 

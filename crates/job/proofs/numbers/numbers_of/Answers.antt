@@ -9,8 +9,8 @@ loop-k-preserved c =
     let bytes = c.args.bytes.now in
     let f = λ (j : ℕ). number_at bytes (2 * j) in
     let more = map-range_with_len_more f 0 c.loop-k.k c.loop-k.k (zero-add c.loop-k.k) in
-    let pushed = c.in-ok-push.ensures.items in
-    pushed ∙ ap (λ xs. xs ++ (c.number-at.result ∷ [])) c.loop-k.invariant ∙ ap (λ x. map f (range_with_len 0 c.loop-k.k) ++ (x ∷ [])) c.number-at.ensures ∙ sym more
+    let pushed = c.in_ok-push.ensures.items in
+    pushed ∙ ap (λ xs. xs ++ (c.number_at.result ∷ [])) c.loop-k.invariant ∙ ap (λ x. map f (range_with_len 0 c.loop-k.k) ++ (x ∷ [])) c.number_at.ensures ∙ sym more
 
 pub returns : goal.returns
 returns c =
