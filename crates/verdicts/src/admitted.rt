@@ -2,6 +2,7 @@
 use crate::drafts::Change::*;
 use crate::drafts::*;
 use crate::opcodes::*;
+use std::test::Fail;
 
 #[test]
 fn the_sample_and_its_like_are_admitted(rt: HostRuntime) -> Result<(), Fail> {

@@ -140,12 +140,14 @@ impl Draft {
     }
 }
 
+// A label, the changes of the sample, and the line that is said of it then.
+pub(crate) type Case<'a> = (&'a str, &'a [Change], &'a str);
+
 // Whether this line is said of the sample with these changes.
 fn check_verdict(
     rt: &impl Abort,
     heap: Global,
-    changes: &[Change],
-    expected: &str,
+    (label, changes, expected): Case<'_>,
 ) -> Result<(), Fail> {
     let mut draft = Draft::sample(heap)?;
     for change in changes {
@@ -153,16 +155,13 @@ fn check_verdict(
     }
     let job = draft.bytes(heap)?;
     let line = judge(heap, job.as_slice())?.line(heap)?;
-    assert_eq!(rt; line.as_str().strip_suffix("\n"), Some(expected));
+    assert_eq!(rt; line.as_str().strip_suffix("\n"), Some(expected), "{label}");
     Ok(())
 }
 
-// A label, the changes of the sample, and the line that is said of it then.
-pub(crate) type Case<'a> = (&'a str, &'a [Change], &'a str);
-
 pub(crate) fn check_all(rt: &impl Abort, heap: Global, cases: &[Case<'_>]) -> Result<(), Fail> {
-    for (label, changes, expected) in cases {
-        check_verdict(rt, heap, changes, expected).note(*label)?;
+    for case in cases {
+        check_verdict(rt, heap, *case)?;
     }
     Ok(())
 }

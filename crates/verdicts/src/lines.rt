@@ -2,6 +2,7 @@
 use crate::drafts::Change::*;
 use crate::drafts::*;
 use crate::opcodes::*;
+use std::test::Fail;
 
 #[test]
 fn rule_8_words(rt: HostRuntime) -> Result<(), Fail> {

@@ -2,6 +2,7 @@
 use crate::drafts::Change::*;
 use crate::drafts::*;
 use crate::opcodes::*;
+use std::test::Fail;
 
 #[test]
 fn what_is_not_of_lines_comes_in_order(rt: HostRuntime) -> Result<(), Fail> {

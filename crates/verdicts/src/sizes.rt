@@ -2,6 +2,7 @@
 use crate::drafts::Change::*;
 use crate::drafts::*;
 use crate::opcodes::*;
+use std::test::Fail;
 
 #[test]
 fn refused_33_for_the_length(rt: HostRuntime) -> Result<(), Fail> {

@@ -1,6 +1,7 @@
 // The rules on the records and on what the lines say of them.
 use crate::drafts::Change::*;
 use crate::drafts::*;
+use std::test::Fail;
 
 #[test]
 fn rule_3_chain(rt: HostRuntime) -> Result<(), Fail> {
