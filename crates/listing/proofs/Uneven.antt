@@ -16,5 +16,5 @@ refused_uneven image = by (eqb (length image % 3) 0) refl
         (λ e. let z : ◌≡◌ {A = ℕ} 0 1 = cc in absurd (omega arith), λ uneven. absurd (uneven (length image / 3) (omega arith)))
     by false t = (λ e words whole. eqb-false (length image % 3) 0 t (omega arith), λ uneven. refl)
 
-pub ended : (image : List ℕ) (r : Ending) → r ≡ ending_of image → record { value : r ≡ ending_of image; variant : (ending_refusal r ≡ Some (29, 0)) ↔ Uneven image }
-ended image r e = record { value = e; variant = subst (λ x. (ending_refusal x ≡ Some (29, 0)) ↔ Uneven image) (sym e) (refused_uneven image) }
+pub ended : (image : List ℕ) (r : Ending) → r ≡ ending_of image → record { value : r ≡ ending_of image; uneven : (ending_refusal r ≡ Some (29, 0)) ↔ Uneven image }
+ended image r e = record { value = e; uneven = subst (λ x. (ending_refusal x ≡ Some (29, 0)) ↔ Uneven image) (sym e) (refused_uneven image) }

@@ -47,7 +47,7 @@ pub fn refused_words(image: &[u8]) -> usize
 
 pub fn ending(image: &[u8]) -> Ending
     ensures value { result ≡ ending_of image.now }
-    ensures variant { (ending_refusal result ≡ Some (29, 0)) ↔ Uneven image.now }
+    ensures uneven { (ending_refusal result ≡ Some (29, 0)) ↔ Uneven image.now }
 {
     if image.len() % 3 != 0 {
         return Ending::LeftOver;

@@ -65,7 +65,7 @@ pub enum Instruction {
     },
 }
 
-// What `==` on addresses answers, in the words of `eq` below.
+// `==` on addresses. Its own contract goes by the variants, and below there would be too many of them to go through.
 fn are_same(address: MemoryAddress, other: MemoryAddress) -> bool
     ensures { Decides result (address ≡ other) }
 {
