@@ -60,6 +60,7 @@ impl PartialEq for Operation {
     ghost laws = { Prim.search (comparing, rules) };
 
     fn eq(&self, other: &Operation) -> bool
+        ensures value { result ≡ on operation_code nat_eq self.now other.now }
         ensures decides { Decides result (self.now ≡ other.now) }
     {
         self.code() == other.code()
