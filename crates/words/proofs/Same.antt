@@ -1,4 +1,5 @@
--- Two instructions with the same numbers are the same.
+-- Two instructions with the same numbers are the same, and so are two operations with the same code: the tests that `==` makes
+-- of them decide whether they are equal, through a bound as well.
 -- Assumes nothing.
 use Rattle.std.proofs.Common.{◌≡◌, ℕ, cond, Bool, List, [], ◌∷◌, eqb, get_or, drop, unwrap_or, Decides, nat_eq, sym, refl, ap, ◌∙◌}
 use Rattle.std.specs.Bool.{one_answer}
@@ -98,10 +99,15 @@ instruction_back (AluTwoSources op result op1 op2) = λ k. AluTwoSources (operat
 instruction_back (Store target source) = λ k. Store (address_back target k) (register_back source k)
 instruction_back (StoreImmediate target value) = refl
 
-same_numbers : (x y : Instruction) → Decides (on numbers (pointwise nat_eq) x y) (x ≡ y)
+pub same_numbers : (x y : Instruction) → Decides (on numbers (pointwise nat_eq) x y) (x ≡ y)
 same_numbers x y =
     let lists = pointwise_decides unsigned_Decides (numbers x) (numbers y) in
     (λ t. sym (instruction_back x) ∙ ap instruction_of (lists.0 t) ∙ instruction_back y, λ e. lists.1 (ap numbers e))
+
+pub same_code : (x y : Operation) → Decides (on operation_code nat_eq x y) (x ≡ y)
+same_code x y =
+    let codes = unsigned_Decides (operation_code x) (operation_code y) in
+    (λ t. sym (operation_back x) ∙ ap (λ n. unwrap_or (operation n) Cmpa) (codes.0 t) ∙ operation_back y, λ e. codes.1 (ap operation_code e))
 
 -- a test that tells the same from the others is the comparison of the numbers
 pub told_by_numbers : (r : Bool) (x y : Instruction) → Decides r (x ≡ y) → r ≡ on numbers (pointwise nat_eq) x y

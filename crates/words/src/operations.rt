@@ -1,9 +1,9 @@
 // The operations of the ALU. One set serves all forms of instruction, so a form may lack an operation.
 ghost use Rattle.std.specs.Prelude.{◌≡◌, ◌<◌, Decides, nat_eq};
-ghost use Rattle.words.specs.Codes.{operation_code, operation};
-ghost use Rattle.words.specs.Forms.{one_source, has_form};
 ghost use Rattle.std.specs.Cmp.Rules.{comparing};
 ghost use Rattle.std.proofs.Common.{rules};
+ghost use Rattle.words.specs.Codes.{operation_code, operation};
+ghost use Rattle.words.specs.Forms.{one_source, has_form};
 
 // The number of each variant is the code that names it in a word.
 #[derive(Clone, Copy, Eq, Debug)]
