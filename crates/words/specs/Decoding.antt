@@ -42,21 +42,25 @@ stepped w ix = cond (bits w 7 1 == 0) (PostIncrement ix (low w 7)) (PreDecrement
 abbrev pub store_immediate : ℕ → Instruction
 store_immediate w = StoreImmediate (inverted w 8) (inverted_bits w 8 8)
 
+-- reg:4 in bits 11 to 8, whatever the address
+abbrev pub store : ℕ → MemoryAddress → Instruction
+store w target = Store target (register (bits w 8 4))
+
 -- 000001 1011 reg:4 n_addr:8
 abbrev pub store_direct : ℕ → Instruction
-store_direct w = Store (Direct (inverted w 8)) (register (bits w 8 4))
+store_direct w = store w (Direct (inverted w 8))
 
 -- 00001011 ix:2 reg:4 offset:8
 abbrev pub store_offset : ℕ → Instruction
-store_offset w = Store (Offset (index (bits w 12 2)) (low w 8)) (register (bits w 8 4))
+store_offset w = store w (Offset (index (bits w 12 2)) (low w 8))
 
 -- 00001101 ix:2 reg:4 m step:7
 abbrev pub store_stepped : ℕ → Instruction
-store_stepped w = Store (stepped w (index (bits w 12 2))) (register (bits w 8 4))
+store_stepped w = store w (stepped w (index (bits w 12 2)))
 
 -- 00001110 ix:2 reg:4 and ones
 abbrev pub store_r3 : ℕ → Instruction
-store_r3 w = Store (OffsetR3 (index (bits w 12 2))) (register (bits w 8 4))
+store_r3 w = store w (OffsetR3 (index (bits w 12 2)))
 
 -- op:5 in bits 16 to 12 and reg:4 in bits 11 to 8, whatever the address
 abbrev pub alu_memory : ℕ → MemoryAddress → Option Instruction

@@ -15,14 +15,18 @@ pub enum Condition {
     Event = 7,
 }
 
-impl Condition {
-    pub(crate) fn code(self) -> u32
-        ensures value { result ≡ condition_code self }
+impl From<Condition> for u32 {
+    ghost from_gives = { λ x code. code ≡ condition_code x };
+
+    fn from(condition: Condition) -> u32
+        ensures value { result ≡ condition_code condition }
         ensures upper_bound { result < 8 }
     {
-        self as u32
+        condition as u32
     }
+}
 
+impl Condition {
     // The condition that a field of three bits names: each of its values is a code.
     pub(crate) fn of_code(code: u32) -> Condition
         ensures { result ≡ condition code }

@@ -22,9 +22,7 @@ pub fn decode(word: u32) -> Result<Instruction, DecodeError>
         0x04_0000..=0x05_FFFF => rows::alu_direct(word),
         0x06_0000..=0x07_FFFF if word / 4 % 64 == 63 => rows::alu_r3(word),
         0x0B_7FFF => Ok(Instruction::Sflag),
-        0x0B_BFF0..=0x0B_BFFF if Division::is_code(word % 16) => {
-            Ok(Instruction::Freq(Division::of_code(word % 16)))
-        }
+        0x0B_BFF0..=0x0B_BFFF if Division::try_from(word % 16).is_ok() => rows::frequency(word),
         0x0B_DFFF => Ok(Instruction::Halt),
         0x0C_0000..=0x0D_FFFF => rows::alu_registers(word),
         0x0E_0000..=0x0E_FFFF => rows::alu_immediate(word),

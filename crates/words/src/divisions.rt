@@ -1,8 +1,10 @@
 // How far FREQ divides the clock.
-ghost use Rattle.std.specs.Prelude.{◌≡◌, ◌<◌, is_some};
-ghost use Rattle.std.specs.Option.{unwrap_or};
+ghost use Rattle.std.specs.Prelude.{◌≡◌, ◌<◌};
+ghost use Rattle.std.specs.Option.{ok_or};
 ghost use Rattle.words.specs.Codes.{division_code, division};
-ghost use Rattle.words.specs.declared.divisions.Division.TheVariants.{Undivided};
+ghost use Rattle.words.specs.declared.errors.DecodeError.TheVariants.{Reserved};
+
+use crate::errors::DecodeError;
 
 // The number of each variant is the code that names it in a word. The other eleven codes are reserved.
 #[derive(Clone, Copy, PartialEq, Eq, Debug)]
@@ -14,31 +16,31 @@ pub enum Division {
     By16 = 15,
 }
 
-impl Division {
-    pub(crate) fn code(self) -> u32
-        ensures value { result ≡ division_code self }
+impl From<Division> for u32 {
+    ghost from_gives = { λ x code. code ≡ division_code x };
+
+    fn from(division: Division) -> u32
+        ensures value { result ≡ division_code division }
         ensures upper_bound { result < 16 }
     {
-        self as u32
+        division as u32
     }
+}
 
-    // Whether a field of four bits names a division.
-    pub(crate) fn is_code(code: u32) -> bool
-        ensures { result ≡ is_some (division code) }
-    {
-        matches!(code, 0 | 8 | 12 | 14 | 15)
-    }
+// A field of four bits.
+impl TryFrom<u32> for Division {
+    type Error = DecodeError;
 
-    // The division that a code names; a reserved code divides by nothing.
-    pub(crate) fn of_code(code: u32) -> Division
-        ensures { result ≡ unwrap_or (division code) Undivided }
-    {
+    ghost try_from_gives = { λ code r. r ≡ ok_or (division code) Reserved };
+
+    fn try_from(code: u32) -> Result<Division, DecodeError> {
         match code {
-            8 => Division::By2,
-            12 => Division::By4,
-            14 => Division::By8,
-            15 => Division::By16,
-            _ => Division::Undivided,
+            0 => Ok(Division::Undivided),
+            8 => Ok(Division::By2),
+            12 => Ok(Division::By4),
+            14 => Ok(Division::By8),
+            15 => Ok(Division::By16),
+            _ => Err(DecodeError::Reserved),
         }
     }
 }

@@ -61,7 +61,7 @@ fn target_word(direct: u32, indirect: u32, target: Target) -> u32
     ensures { result ≡ target_word direct indirect target }
 {
     match target {
-        Target::Address(address) => direct * 0x1_0000 + (0xFFFF - address as u32),
+        Target::Address(address) => direct * 0x1_0000 + (0xFFFF - u32::from(address)),
         Target::Ip => indirect * 0x1_0000 + 0xFFFF,
     }
 }
@@ -70,7 +70,7 @@ fn alu_fields(operation: Operation, register: Register) -> u32
     ensures value { result ≡ alu_fields operation register }
     ensures upper_bound { result < 2 ^ 17 }
 {
-    operation.code() * 0x1000 + register.code() * 0x100
+    u32::from(operation) * 0x1000 + u32::from(register) * 0x100
 }
 
 fn alu_memory_word(operation: Operation, register: Register, source: MemoryAddress) -> u32
@@ -79,18 +79,18 @@ fn alu_memory_word(operation: Operation, register: Register, source: MemoryAddre
 {
     let fields = alu_fields(operation, register);
     match source {
-        MemoryAddress::Direct(address) => 0x04_0000 + fields + (0xFF - address as u32),
+        MemoryAddress::Direct(address) => 0x04_0000 + fields + (0xFF - u32::from(address)),
         MemoryAddress::Offset(index, offset) => 0x18_0000
-            + index.code() * 0x2_0000
+            + u32::from(index) * 0x2_0000
             + fields
-            + offset as u32,
-        MemoryAddress::OffsetR3(index) => 0x06_0000 + fields + 0xFC + index.code(),
+            + u32::from(offset),
+        MemoryAddress::OffsetR3(index) => 0x06_0000 + fields + 0xFC + u32::from(index),
         MemoryAddress::PostIncrement(index, step) => 0x10_0000
-            + index.code() * 0x2_0000
+            + u32::from(index) * 0x2_0000
             + fields
-            + step as u32,
+            + u32::from(step),
         MemoryAddress::PreDecrement(index, step) => {
-            0x10_0000 + index.code() * 0x2_0000 + fields + 0x80 + (0x80 - step as u32)
+            0x10_0000 + u32::from(index) * 0x2_0000 + fields + 0x80 + (0x80 - u32::from(step))
         }
     }
 }
@@ -99,20 +99,20 @@ fn store_word(target: MemoryAddress, source: Register) -> u32
     requires { address_fits target ≡ true }
     ensures { result ≡ store_word target source }
 {
-    let register = source.code() * 0x100;
+    let register = u32::from(source) * 0x100;
     match target {
-        MemoryAddress::Direct(address) => 0x01_B000 + register + (0xFF - address as u32),
+        MemoryAddress::Direct(address) => 0x01_B000 + register + (0xFF - u32::from(address)),
         MemoryAddress::Offset(index, offset) => 0x02_C000
-            + index.code() * 0x1000
+            + u32::from(index) * 0x1000
             + register
-            + offset as u32,
-        MemoryAddress::OffsetR3(index) => 0x03_8000 + index.code() * 0x1000 + register + 0xFF,
+            + u32::from(offset),
+        MemoryAddress::OffsetR3(index) => 0x03_8000 + u32::from(index) * 0x1000 + register + 0xFF,
         MemoryAddress::PostIncrement(index, step) => 0x03_4000
-            + index.code() * 0x1000
+            + u32::from(index) * 0x1000
             + register
-            + step as u32,
+            + u32::from(step),
         MemoryAddress::PreDecrement(index, step) => {
-            0x03_4000 + index.code() * 0x1000 + register + 0x80 + (0x80 - step as u32)
+            0x03_4000 + u32::from(index) * 0x1000 + register + 0x80 + (0x80 - u32::from(step))
         }
     }
 }
@@ -125,15 +125,15 @@ fn word_of(instruction: Instruction) -> u32
         Instruction::Nop => 0x3F_FFFF,
         Instruction::Halt => 0x0B_DFFF,
         Instruction::Sflag => 0x0B_7FFF,
-        Instruction::Freq(division) => 0x0B_BFF0 + division.code(),
+        Instruction::Freq(division) => 0x0B_BFF0 + u32::from(division),
         Instruction::Push => 0x2D_FFFF,
         Instruction::Pop => 0x3E_BFFF,
         Instruction::Ret => 0x3F_3FFF,
         Instruction::Reti => 0x3F_1FFF,
         Instruction::Jump(condition, target) => {
             target_word(
-                0b110_000 + condition.code(),
-                0b100_000 + condition.code(),
+                0b110_000 + u32::from(condition),
+                0b100_000 + u32::from(condition),
                 target,
             )
         }
@@ -148,12 +148,16 @@ fn word_of(instruction: Instruction) -> u32
             operation,
             register,
             value,
-        } => 0x0E_0000 + alu_fields(operation, register) + (0xFF - value as u32),
+        } => 0x0E_0000 + alu_fields(operation, register) + (0xFF - u32::from(value)),
         Instruction::AluOneSource {
             operation,
             result,
             source,
-        } => 0x0C_0000 + operation.code() * 0x1000 + 0xF00 + source.code() * 0x10 + result.code(),
+        } => 0x0C_0000
+            + u32::from(operation) * 0x1000
+            + 0xF00
+            + u32::from(source) * 0x10
+            + u32::from(result),
         Instruction::AluTwoSources {
             operation,
             result,
@@ -161,14 +165,14 @@ fn word_of(instruction: Instruction) -> u32
             op2,
         } => {
             0x0C_0000
-                + operation.code() * 0x1000
-                + op2.code() * 0x100
-                + op1.code() * 0x10
-                + result.code()
+                + u32::from(operation) * 0x1000
+                + u32::from(op2) * 0x100
+                + u32::from(op1) * 0x10
+                + u32::from(result)
         }
         Instruction::Store { target, source } => store_word(target, source),
         Instruction::StoreImmediate { target, value } => {
-            (0xFF - value as u32) * 0x100 + (0xFF - target as u32)
+            (0xFF - u32::from(value)) * 0x100 + (0xFF - u32::from(target))
         }
     }
 }

@@ -2,8 +2,12 @@
 ghost use Rattle.std.specs.Prelude.{◌≡◌, ◌<◌, Decides, nat_eq};
 ghost use Rattle.std.specs.Cmp.Rules.{comparing};
 ghost use Rattle.std.proofs.Common.{rules};
+ghost use Rattle.std.specs.Option.{ok_or};
 ghost use Rattle.words.specs.Codes.{operation_code, operation};
 ghost use Rattle.words.specs.Forms.{one_source, has_form};
+ghost use Rattle.words.specs.declared.errors.DecodeError.TheVariants.{Reserved};
+
+use crate::errors::DecodeError;
 
 // The number of each variant is the code that names it in a word.
 #[derive(Clone, Copy, Eq, Debug)]
@@ -63,76 +67,85 @@ impl PartialEq for Operation {
         ensures value { result ≡ on operation_code nat_eq self.now other.now }
         ensures decides { Decides result (self.now ≡ other.now) }
     {
-        self.code() == other.code()
+        u32::from(*self) == u32::from(*other)
+    }
+}
+
+impl From<Operation> for u32 {
+    ghost from_gives = { λ x code. code ≡ operation_code x };
+
+    fn from(operation: Operation) -> u32
+        ensures value { result ≡ operation_code operation }
+        ensures upper_bound { result < 32 }
+    {
+        operation as u32
+    }
+}
+
+// A field of five bits.
+impl TryFrom<u32> for Operation {
+    type Error = DecodeError;
+
+    ghost try_from_gives = { λ code r. r ≡ ok_or (operation code) Reserved };
+
+    fn try_from(code: u32) -> Result<Operation, DecodeError> {
+        match code {
+            0 => Ok(Operation::Cmpa),
+            1 => Ok(Operation::Cmp),
+            2 => Ok(Operation::And),
+            3 => Ok(Operation::Subs),
+            4 => Ok(Operation::Subd),
+            5 => Ok(Operation::Subdc),
+            6 => Ok(Operation::Mula),
+            7 => Ok(Operation::Subsc),
+            8 => Ok(Operation::Xor),
+            10 => Ok(Operation::Move),
+            11 => Ok(Operation::Or),
+            12 => Ok(Operation::Add),
+            13 => Ok(Operation::Addc),
+            14 => Ok(Operation::Mul),
+            15 => Ok(Operation::Tstb),
+            16 => Ok(Operation::Shra),
+            17 => Ok(Operation::Inc),
+            18 => Ok(Operation::Cmvd),
+            19 => Ok(Operation::Cmvs),
+            20 => Ok(Operation::Shrc),
+            21 => Ok(Operation::Incc),
+            22 => Ok(Operation::Shr),
+            24 => Ok(Operation::Cpl1),
+            25 => Ok(Operation::Cpl2),
+            26 => Ok(Operation::Shl),
+            27 => Ok(Operation::Dec),
+            28 => Ok(Operation::Cpl2c),
+            30 => Ok(Operation::Shlc),
+            31 => Ok(Operation::Decc),
+            _ => Err(DecodeError::Reserved),
+        }
     }
 }
 
 impl Operation {
-    pub(crate) fn code(self) -> u32
-        ensures value { result ≡ operation_code self }
-        ensures upper_bound { result < 32 }
-    {
-        self as u32
-    }
-
-    pub(crate) fn of_code(code: u32) -> Option<Operation>
-        ensures { result ≡ operation code }
-    {
-        match code {
-            0 => Some(Operation::Cmpa),
-            1 => Some(Operation::Cmp),
-            2 => Some(Operation::And),
-            3 => Some(Operation::Subs),
-            4 => Some(Operation::Subd),
-            5 => Some(Operation::Subdc),
-            6 => Some(Operation::Mula),
-            7 => Some(Operation::Subsc),
-            8 => Some(Operation::Xor),
-            10 => Some(Operation::Move),
-            11 => Some(Operation::Or),
-            12 => Some(Operation::Add),
-            13 => Some(Operation::Addc),
-            14 => Some(Operation::Mul),
-            15 => Some(Operation::Tstb),
-            16 => Some(Operation::Shra),
-            17 => Some(Operation::Inc),
-            18 => Some(Operation::Cmvd),
-            19 => Some(Operation::Cmvs),
-            20 => Some(Operation::Shrc),
-            21 => Some(Operation::Incc),
-            22 => Some(Operation::Shr),
-            24 => Some(Operation::Cpl1),
-            25 => Some(Operation::Cpl2),
-            26 => Some(Operation::Shl),
-            27 => Some(Operation::Dec),
-            28 => Some(Operation::Cpl2c),
-            30 => Some(Operation::Shlc),
-            31 => Some(Operation::Decc),
-            _ => None,
-        }
-    }
-
     fn has_one_source(self) -> bool
         ensures { result ≡ one_source self }
     {
-        match self {
+        matches!(
+            self,
             Operation::Move
-            | Operation::Cmvd
-            | Operation::Cmvs
-            | Operation::Shl
-            | Operation::Shlc
-            | Operation::Shr
-            | Operation::Shrc
-            | Operation::Shra
-            | Operation::Cpl1
-            | Operation::Cpl2
-            | Operation::Cpl2c
-            | Operation::Inc
-            | Operation::Incc
-            | Operation::Dec
-            | Operation::Decc => true,
-            _ => false,
-        }
+                | Operation::Cmvd
+                | Operation::Cmvs
+                | Operation::Shl
+                | Operation::Shlc
+                | Operation::Shr
+                | Operation::Shrc
+                | Operation::Shra
+                | Operation::Cpl1
+                | Operation::Cpl2
+                | Operation::Cpl2c
+                | Operation::Inc
+                | Operation::Incc
+                | Operation::Dec
+                | Operation::Decc
+        )
     }
 
     pub fn has_form(self, form: Form) -> bool

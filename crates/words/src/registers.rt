@@ -23,14 +23,18 @@ pub enum Register {
     A = 15,
 }
 
-impl Register {
-    pub(crate) fn code(self) -> u32
-        ensures value { result ≡ register_code self }
+impl From<Register> for u32 {
+    ghost from_gives = { λ x code. code ≡ register_code x };
+
+    fn from(register: Register) -> u32
+        ensures value { result ≡ register_code register }
         ensures upper_bound { result < 16 }
     {
-        self as u32
+        register as u32
     }
+}
 
+impl Register {
     // The register that a field of four bits names: each of its values is a code.
     pub(crate) fn of_code(code: u32) -> Register
         ensures { result ≡ register code }
@@ -64,14 +68,18 @@ pub enum IndexRegister {
     I3 = 3,
 }
 
-impl IndexRegister {
-    pub(crate) fn code(self) -> u32
-        ensures value { result ≡ index_code self }
+impl From<IndexRegister> for u32 {
+    ghost from_gives = { λ x code. code ≡ index_code x };
+
+    fn from(index: IndexRegister) -> u32
+        ensures value { result ≡ index_code index }
         ensures upper_bound { result < 4 }
     {
-        self as u32
+        index as u32
     }
+}
 
+impl IndexRegister {
     // The index register that a field of two bits names.
     pub(crate) fn of_code(code: u32) -> IndexRegister
         ensures { result ≡ index code }

@@ -2,23 +2,26 @@
 // held inverted.
 ghost use Rattle.std.specs.Prelude.{◌≡◌};
 ghost use Rattle.std.specs.Option.{ok_or};
-ghost use Rattle.words.specs.Decoding.{operation_in, stepped, store_immediate, store_direct, store_offset, store_stepped, store_r3, alu_memory, alu_direct, alu_r3, alu_stepped, alu_offset, alu_immediate, alu_registers, jump_ip, jump_target, jump};
+ghost use Rattle.words.specs.Decoding.{operation_in, stepped, store_immediate, store, store_direct, store_offset, store_stepped, store_r3, alu_memory, alu_direct, alu_r3, alu_stepped, alu_offset, alu_immediate, alu_registers, freq, jump_ip, jump_target, jump};
 ghost use Rattle.words.specs.declared.errors.DecodeError.TheVariants.{Reserved};
 
 use crate::addresses::MemoryAddress;
 use crate::conditions::Condition;
+use crate::divisions::Division;
 use crate::errors::DecodeError;
 use crate::instructions::{Instruction, Target};
 use crate::operations::{Form, Operation};
 use crate::registers::{IndexRegister, Register};
 
 // The operation of that code, if the form has it.
-fn operation_in(form: Form, code: u32) -> Option<Operation>
-    ensures { result ≡ operation_in form code }
+fn operation_in(form: Form, code: u32) -> Result<Operation, DecodeError>
+    ensures { result ≡ ok_or (operation_in form code) Reserved }
 {
-    match Operation::of_code(code) {
-        Some(operation) if operation.has_form(form) => Some(operation),
-        _ => None,
+    let operation = Operation::try_from(code)?;
+    if operation.has_form(form) {
+        Ok(operation)
+    } else {
+        Err(DecodeError::Reserved)
     }
 }
 
@@ -44,14 +47,19 @@ pub(crate) fn store_immediate(word: u32) -> Instruction
     }
 }
 
+// reg:4 in bits 11 to 8, whatever the address
+fn store(word: u32, target: MemoryAddress) -> Instruction
+    ensures { result ≡ store word target }
+{
+    let source = Register::of_code(word / 0x100 % 16);
+    Instruction::Store { target, source }
+}
+
 // 000001 1011 reg:4 n_addr:8
 pub(crate) fn store_direct(word: u32) -> Instruction
     ensures { result ≡ store_direct word }
 {
-    Instruction::Store {
-        target: MemoryAddress::Direct((0xFF - word % 0x100) as u8),
-        source: Register::of_code(word / 0x100 % 16),
-    }
+    store(word, MemoryAddress::Direct((0xFF - word % 0x100) as u8))
 }
 
 // 00001011 ix:2 reg:4 offset:8
@@ -59,10 +67,7 @@ pub(crate) fn store_offset(word: u32) -> Instruction
     ensures { result ≡ store_offset word }
 {
     let index = IndexRegister::of_code(word / 0x1000 % 4);
-    Instruction::Store {
-        target: MemoryAddress::Offset(index, (word % 0x100) as u8),
-        source: Register::of_code(word / 0x100 % 16),
-    }
+    store(word, MemoryAddress::Offset(index, (word % 0x100) as u8))
 }
 
 // 00001101 ix:2 reg:4 m step:7
@@ -70,10 +75,7 @@ pub(crate) fn store_stepped(word: u32) -> Instruction
     ensures { result ≡ store_stepped word }
 {
     let index = IndexRegister::of_code(word / 0x1000 % 4);
-    Instruction::Store {
-        target: stepped_address(word, index),
-        source: Register::of_code(word / 0x100 % 16),
-    }
+    store(word, stepped_address(word, index))
 }
 
 // 00001110 ix:2 reg:4 and ones
@@ -81,25 +83,20 @@ pub(crate) fn store_r3(word: u32) -> Instruction
     ensures { result ≡ store_r3 word }
 {
     let index = IndexRegister::of_code(word / 0x1000 % 4);
-    Instruction::Store {
-        target: MemoryAddress::OffsetR3(index),
-        source: Register::of_code(word / 0x100 % 16),
-    }
+    store(word, MemoryAddress::OffsetR3(index))
 }
 
 // op:5 in bits 16 to 12 and reg:4 in bits 11 to 8, whatever the address
 fn alu_memory(word: u32, source: MemoryAddress) -> Result<Instruction, DecodeError>
     ensures { result ≡ ok_or (alu_memory word source) Reserved }
 {
+    let operation = operation_in(Form::Memory, word / 0x1000 % 32)?;
     let register = Register::of_code(word / 0x100 % 16);
-    match operation_in(Form::Memory, word / 0x1000 % 32) {
-        Some(operation) => Ok(Instruction::AluMemory {
-            operation,
-            register,
-            source,
-        }),
-        None => Err(DecodeError::Reserved),
-    }
+    Ok(Instruction::AluMemory {
+        operation,
+        register,
+        source,
+    })
 }
 
 // 00010 op:5 reg:4 n_addr:8
@@ -137,37 +134,44 @@ pub(crate) fn alu_offset(word: u32) -> Result<Instruction, DecodeError>
 pub(crate) fn alu_immediate(word: u32) -> Result<Instruction, DecodeError>
     ensures { result ≡ ok_or (alu_immediate word) Reserved }
 {
-    let register = Register::of_code(word / 0x100 % 16);
-    match operation_in(Form::Immediate, word / 0x1000 % 16) {
-        Some(operation) => Ok(Instruction::AluImmediate {
-            operation,
-            register,
-            value: (0xFF - word % 0x100) as u8,
-        }),
-        None => Err(DecodeError::Reserved),
-    }
+    let operation = operation_in(Form::Immediate, word / 0x1000 % 16)?;
+    Ok(Instruction::AluImmediate {
+        operation,
+        register: Register::of_code(word / 0x100 % 16),
+        value: (0xFF - word % 0x100) as u8,
+    })
 }
 
 // 00110 op:5 op2:4 op1:4 res:4, where one source leaves op2 unread
 pub(crate) fn alu_registers(word: u32) -> Result<Instruction, DecodeError>
     ensures { result ≡ ok_or (alu_registers word) Reserved }
 {
+    let operation = Operation::try_from(word / 0x1000 % 32)?;
     let result = Register::of_code(word % 16);
     let op1 = Register::of_code(word / 0x10 % 16);
-    match Operation::of_code(word / 0x1000 % 32) {
-        Some(operation) if operation.has_form(Form::OneSource) => Ok(Instruction::AluOneSource {
+    if operation.has_form(Form::OneSource) {
+        Ok(Instruction::AluOneSource {
             operation,
             result,
             source: op1,
-        }),
-        Some(operation) if operation.has_form(Form::TwoSources) => Ok(Instruction::AluTwoSources {
+        })
+    } else if operation.has_form(Form::TwoSources) {
+        Ok(Instruction::AluTwoSources {
             operation,
             result,
             op1,
             op2: Register::of_code(word / 0x100 % 16),
-        }),
-        _ => Err(DecodeError::Reserved),
+        })
+    } else {
+        Err(DecodeError::Reserved)
     }
+}
+
+// 001011 1011 and eight ones, divn:4
+pub(crate) fn frequency(word: u32) -> Result<Instruction, DecodeError>
+    ensures { result ≡ ok_or (freq word) Reserved }
+{
+    Ok(Instruction::Freq(Division::try_from(word % 16)?))
 }
 
 // 100 cc:3 and ones

@@ -1,15 +1,14 @@
 -- Each range of `decode` holds the words of one row, and what is left between them those of none.
 -- Assumes nothing.
-use Rattle.std.proofs.Common.{◌≡◌, ℕ, ◌^◌, ◌<◌, ◌≤◌, true, false, List, [], ◌∷◌, length, get_or, is_some, Some, None, Ok, Err, Option, Result, unwrap_or, sym, refl, ap, ◌∙◌, arith, lit<, lit≤}
+use Rattle.std.proofs.Common.{◌==◌, ◌≡◌, ℕ, ◌^◌, ◌<◌, ◌≤◌, true, false, List, [], ◌∷◌, length, get_or, is_ok, Some, None, Ok, Err, Option, Result, sym, refl, ap, ◌∙◌, arith, lit<, lit≤}
 use borrow.Author.Tests.{clash}
 use Rattle.std.proofs.lemmas.Bool.{eq-eqb, ne_eqb, cond-true, cond-false}
 use Rattle.std.specs.Option.{option_map, ok_or}
 use Rattle.words.specs.Bits.{low, bits}
 use Rattle.words.specs.Codes.{division}
-use Rattle.words.specs.Decoding.{rows, decoded}
+use Rattle.words.specs.Decoding.{given, rows, decoded}
 use Rattle.words.specs.Laws.{Reads}
 use Rattle.words.specs.declared.divisions.Division.{Division}
-use Rattle.words.specs.declared.divisions.Division.TheVariants.{Undivided}
 use Rattle.words.specs.declared.errors.DecodeError.{DecodeError}
 use Rattle.words.specs.declared.errors.DecodeError.TheVariants.{Reserved}
 use Rattle.words.specs.declared.instructions.Instruction.{Instruction}
@@ -33,13 +32,17 @@ row k lt w r h e = said w r (sym (at_row k lt w h ∙ e))
 gap : (a : ℕ) (ss : List ℕ) (b w : ℕ) → gaps a ss b ≡ true → b ≤ 2 ^ 22 → a ≤ w → w < b → Avoids w ss → Says w (Err Reserved)
 gap a ss b w c top lo hi avoids = said w (Err Reserved) (sym (reserved_between a ss b w c top lo hi avoids))
 
-defined : (d : Option Division) → is_some d ≡ true → option_map Freq d ≡ Some (Freq (unwrap_or d Undivided))
-defined None e = absurd (clash e)
-defined (Some d) e = refl
+-- what a row that fixes bits below its prefix says, where they are as it fixes them and where they are not
+fixed : (x ones : ℕ) (i : Option Instruction) → x ≡ ones → ok_or (given (x == ones) i) Reserved ≡ ok_or i Reserved
+fixed x ones i e = ap (λ o. ok_or o Reserved) (cond-true _ _ _ (eq-eqb x ones e))
 
-undefined : (d : Option Division) → is_some d ≡ false → option_map Freq d ≡ None
-undefined None e = refl
-undefined (Some d) e = absurd (clash (sym e))
+loose : (x ones : ℕ) (i : Option Instruction) → (x ≡ ones → ⊥) → ok_or (given (x == ones) i) Reserved ≡ Err Reserved
+loose x ones i apart = ap (λ o. ok_or o Reserved) (cond-false _ _ _ (ne_eqb x ones apart))
+
+-- a code that names no division
+unnamed : (d : Option Division) → is_ok (ok_or d Reserved) ≡ false → ok_or (option_map Freq d) Reserved ≡ Err Reserved
+unnamed None e = refl
+unnamed (Some d) e = absurd (clash (sym e))
 
 pub returns-in-753663 : goal.returns-in-753663
 returns-in-753663 c = row 17 (lit< tt) c.args.word _ (omega arith) refl
@@ -81,16 +84,16 @@ pub returns-in-212992-to-229375 : goal.returns-in-212992-to-229375
 returns-in-212992-to-229375 c = row 21 (lit< tt) c.args.word _ (omega arith) (ap Ok (sym c.store_stepped.ensures))
 
 pub returns-in-229376-to-245759 : goal.returns-in-229376-to-245759
-returns-in-229376-to-245759 c = row 20 (lit< tt) c.args.word _ (omega arith) (ap (λ o. ok_or o Reserved) (cond-true _ _ _ (eq-eqb (low c.args.word 8) 0xFF (omega arith))) ∙ ap Ok (sym c.store_r3.ensures))
+returns-in-229376-to-245759 c = row 20 (lit< tt) c.args.word _ (omega arith) (fixed (low c.args.word 8) 0xFF _ (omega arith) ∙ ap Ok (sym c.store_r3.ensures))
 
 pub returns-in-262144-to-393215 : goal.returns-in-262144-to-393215
 returns-in-262144-to-393215 c = row 19 (lit< tt) c.args.word _ (omega arith) (sym c.alu_direct.ensures)
 
 pub returns-in-393216-to-524287 : goal.returns-in-393216-to-524287
-returns-in-393216-to-524287 c = row 18 (lit< tt) c.args.word _ (omega arith) (ap (λ o. ok_or o Reserved) (cond-true _ _ _ (eq-eqb (bits c.args.word 2 6) 0b111111 (omega arith))) ∙ sym c.alu_r3.ensures)
+returns-in-393216-to-524287 c = row 18 (lit< tt) c.args.word _ (omega arith) (fixed (bits c.args.word 2 6) 0b111111 _ (omega arith) ∙ sym c.alu_r3.ensures)
 
 pub returns-in-770032-to-770047 : goal.returns-in-770032-to-770047
-returns-in-770032-to-770047 c = row 16 (lit< tt) c.args.word _ (omega arith) (ap (λ o. ok_or o Reserved) (defined (division (low c.args.word 4)) (sym c.is_code.ensures ∙ c.if-is_code.true)) ∙ ap (λ d. Ok (Freq d)) (sym c.of_code.ensures))
+returns-in-770032-to-770047 c = row 16 (lit< tt) c.args.word _ (omega arith) (sym c.frequency.ensures)
 
 pub returns-in-786432-to-917503 : goal.returns-in-786432-to-917503
 returns-in-786432-to-917503 c = row 14 (lit< tt) c.args.word _ (omega arith) (sym c.alu_registers.ensures)
@@ -105,7 +108,7 @@ pub returns-in-1572864-to-2097151 : goal.returns-in-1572864-to-2097151
 returns-in-1572864-to-2097151 c = row 11 (lit< tt) c.args.word _ (omega arith) (sym c.alu_offset.ensures)
 
 pub returns-in-2097152-to-2621439 : goal.returns-in-2097152-to-2621439
-returns-in-2097152-to-2621439 c = row 10 (lit< tt) c.args.word _ (omega arith) (ap (λ o. ok_or o Reserved) (cond-true _ _ _ (eq-eqb (low c.args.word 16) 0xFFFF (omega arith))) ∙ ap Ok (sym c.jump_ip.ensures))
+returns-in-2097152-to-2621439 c = row 10 (lit< tt) c.args.word _ (omega arith) (fixed (low c.args.word 16) 0xFFFF _ (omega arith) ∙ ap Ok (sym c.jump_ip.ensures))
 
 pub returns-in-3145728-to-3670015 : goal.returns-in-3145728-to-3670015
 returns-in-3145728-to-3670015 c = row 6 (lit< tt) c.args.word _ (omega arith) (ap Ok (sym c.jump_to.ensures))
@@ -129,19 +132,19 @@ pub returns-in-0-to-4194303-3 : goal.returns-in-0-to-4194303-3
 returns-in-0-to-4194303-3 c = gap 0x030000 [] 0x034000 c.args.word refl (lit≤ tt) (omega arith) (omega arith) tt
 
 pub returns-in-0-to-4194303-4 : goal.returns-in-0-to-4194303-4
-returns-in-0-to-4194303-4 c = row 20 (lit< tt) c.args.word _ (omega arith) (ap (λ o. ok_or o Reserved) (cond-false _ _ _ (ne_eqb (low c.args.word 8) 0xFF (λ e. omega arith))))
+returns-in-0-to-4194303-4 c = row 20 (lit< tt) c.args.word _ (omega arith) (loose (low c.args.word 8) 0xFF _ (λ e. omega arith))
 
 pub returns-in-0-to-4194303-5 : goal.returns-in-0-to-4194303-5
 returns-in-0-to-4194303-5 c = gap 0x03C000 [] 0x040000 c.args.word refl (lit≤ tt) (omega arith) (omega arith) tt
 
 pub returns-in-0-to-4194303-6 : goal.returns-in-0-to-4194303-6
-returns-in-0-to-4194303-6 c = row 18 (lit< tt) c.args.word _ (omega arith) (ap (λ o. ok_or o Reserved) (cond-false _ _ _ (ne_eqb (bits c.args.word 2 6) 0b111111 (λ e. omega arith))))
+returns-in-0-to-4194303-6 c = row 18 (lit< tt) c.args.word _ (omega arith) (loose (bits c.args.word 2 6) 0b111111 _ (λ e. omega arith))
 
 pub returns-in-0-to-4194303-7 : goal.returns-in-0-to-4194303-7
 returns-in-0-to-4194303-7 c = gap 0x080000 (0x0B7FFF ∷ []) 0x0BBFF0 c.args.word refl (lit≤ tt) (omega arith) (omega arith) (λ e. omega arith, tt)
 
 pub returns-in-0-to-4194303-8 : goal.returns-in-0-to-4194303-8
-returns-in-0-to-4194303-8 c = row 16 (lit< tt) c.args.word _ (omega arith) (ap (λ o. ok_or o Reserved) (undefined (division (low c.args.word 4)) (sym c.is_code.ensures ∙ c.if-is_code.false)))
+returns-in-0-to-4194303-8 c = row 16 (lit< tt) c.args.word _ (omega arith) (unnamed (division (low c.args.word 4)) (ap is_ok (sym c.try_from.ensures) ∙ sym c.is_ok.ensures.value ∙ c.if-is_ok.false))
 
 pub returns-in-0-to-4194303-9 : goal.returns-in-0-to-4194303-9
 returns-in-0-to-4194303-9 c = gap 0x0BC000 (0x0BDFFF ∷ []) 0x0C0000 c.args.word refl (lit≤ tt) (omega arith) (omega arith) (λ e. omega arith, tt)
@@ -150,7 +153,7 @@ pub returns-in-0-to-4194303-10 : goal.returns-in-0-to-4194303-10
 returns-in-0-to-4194303-10 c = gap 0x0F0000 [] 0x100000 c.args.word refl (lit≤ tt) (omega arith) (omega arith) tt
 
 pub returns-in-0-to-4194303-11 : goal.returns-in-0-to-4194303-11
-returns-in-0-to-4194303-11 c = row 10 (lit< tt) c.args.word _ (omega arith) (ap (λ o. ok_or o Reserved) (cond-false _ _ _ (ne_eqb (low c.args.word 16) 0xFFFF (λ e. omega arith))))
+returns-in-0-to-4194303-11 c = row 10 (lit< tt) c.args.word _ (omega arith) (loose (low c.args.word 16) 0xFFFF _ (λ e. omega arith))
 
 pub returns-in-0-to-4194303-12 : goal.returns-in-0-to-4194303-12
 returns-in-0-to-4194303-12 c = gap 0x280000 (0x29FFFF ∷ 0x2AFFFF ∷ 0x2DFFFF ∷ []) 0x300000 c.args.word refl (lit≤ tt) (omega arith) (omega arith) (λ e. omega arith, (λ e. omega arith, (λ e. omega arith, tt)))
