@@ -1,118 +1,150 @@
--- Two instructions with the same numbers are the same, and so are two operations with the same code: the tests that `==` makes
--- of them decide whether they are equal, through a bound as well.
+-- `==` on instructions and on operations decides whether they are equal, and tests their numbers or their codes. It is derived, so this
+-- is said of the trait's member, which is also all that a caller through a bound sees.
 -- Assumes nothing.
-use Rattle.std.proofs.Common.{◌≡◌, ℕ, cond, Bool, List, [], ◌∷◌, eqb, get_or, drop, unwrap_or, Decides, nat_eq, sym, refl, ap, ◌∙◌}
+use Rattle.std.proofs.Common.{◌≡◌, ◌&&◌, ◌==◌, Some, true, Bool, Option, Decides, nat_eq, sym, refl, ap, subst, ◌∙◌}
+use borrow.Author.Tests.{clash}
+use denote.Enum.Bare.{Bare, sameb, same_true, true_same}
+use denote.Enum.Declared.{Declared}
+use Rattle.std.proofs.lemmas.Bool.{eqb-true, and_parts}
+use Rattle.std.proofs.Math.Bool.{and-true, and_comm}
 use Rattle.std.specs.Bool.{one_answer}
 use Rattle.std.specs.Cmp.{unsigned_Decides}
-use Rattle.std.specs.Cmp.Lexicographic.{pointwise, pointwise_decides}
+use Rattle.std.specs.Cmp.Lexicographic.{pointwise}
 use Rattle.std.specs.Ordering.{on}
-use Rattle.words.specs.Codes.{register_code, register, index_code, index, condition, division, operation_code, operation}
+use Rattle.words.specs.Codes.{find, register_code, index_code, operation_code}
 use Rattle.words.specs.Equality.{target_numbers, address_numbers, numbers}
+use Rattle.words.specs.contracts.addresses.MemoryAddressPartialEq.TheImpl as address_test
+use Rattle.words.specs.contracts.conditions.Condition as condition_type
+use Rattle.words.specs.contracts.divisions.Division as division_type
+use Rattle.words.specs.contracts.instructions.InstructionEq.TheImpl.Laws as instruction_laws
+use Rattle.words.specs.contracts.instructions.InstructionPartialEq.TheImpl as instruction_test
+use Rattle.words.specs.contracts.instructions.TargetPartialEq.TheImpl as target_test
+use Rattle.words.specs.contracts.operations.Operation as operation_type
+use Rattle.words.specs.contracts.operations.OperationPartialEq.TheImpl as operation_test
+use Rattle.words.specs.contracts.registers.IndexRegister as index_type
+use Rattle.words.specs.contracts.registers.Register as register_type
 use Rattle.words.specs.declared.addresses.MemoryAddress.{MemoryAddress}
 use Rattle.words.specs.declared.addresses.MemoryAddress.TheVariants.{Direct, Offset, OffsetR3, PostIncrement, PreDecrement}
-use Rattle.words.specs.declared.conditions.Condition.TheVariants.{Event}
-use Rattle.words.specs.declared.divisions.Division.TheVariants.{Undivided}
 use Rattle.words.specs.declared.instructions.Instruction.{Instruction}
 use Rattle.words.specs.declared.instructions.Instruction.TheVariants.{Nop, Halt, Sflag, Freq, Push, Pop, Ret, Reti, Jump, Call, Calls, AluMemory, AluImmediate, AluOneSource, AluTwoSources, Store, StoreImmediate}
 use Rattle.words.specs.declared.instructions.Target.{Target}
 use Rattle.words.specs.declared.instructions.Target.TheVariants.{Address, Ip}
 use Rattle.words.specs.declared.operations.Operation.{Operation}
-use Rattle.words.specs.declared.operations.Operation.TheVariants.{Cmpa}
 use Rattle.words.specs.declared.registers.IndexRegister.{IndexRegister}
-use Rattle.words.specs.declared.registers.IndexRegister.TheVariants.{I3}
 use Rattle.words.specs.declared.registers.Register.{Register}
-use Rattle.words.specs.declared.registers.Register.TheVariants.{A}
-use Rattle.words.proofs.Names.{register_stands, index_stands, condition_stands, division_stands, operation_stands}
+use Rattle.words.proofs.Names.{Naming, by_register, by_index, by_condition, by_division, by_operation}
 
-abbrev at : List ℕ → ℕ → ℕ
-at ns k = get_or ns k 0
+-- ---- `==` answers whether the two are equal.
+target_told : (x y : Target) → target_test.ghosts.eq x y ≡ true → x ≡ y
+target_told (Address a) (Address b) t = ap Address (eqb-true a b t)
+target_told Ip Ip t = refl
+target_told x y t = absurd (clash t)
 
--- What has the numbers ns.
-abbrev target_of : List ℕ → Target
-target_of ns = cond (eqb (at ns 0) 0) (Address (at ns 1)) Ip
+address_told : (x y : MemoryAddress) → address_test.ghosts.eq x y ≡ true → x ≡ y
+address_told (Direct a) (Direct b) t = ap Direct (eqb-true a b t)
+address_told (Offset i a) (Offset j b) t = let p = and_parts _ _ t in λ k. Offset (same_true index_type.the_type tt i j p.0 k) (eqb-true a b p.1 k)
+address_told (OffsetR3 i) (OffsetR3 j) t = ap OffsetR3 (same_true index_type.the_type tt i j t)
+address_told (PostIncrement i a) (PostIncrement j b) t = let p = and_parts _ _ t in λ k. PostIncrement (same_true index_type.the_type tt i j p.0 k) (eqb-true a b p.1 k)
+address_told (PreDecrement i a) (PreDecrement j b) t = let p = and_parts _ _ t in λ k. PreDecrement (same_true index_type.the_type tt i j p.0 k) (eqb-true a b p.1 k)
+address_told x y t = absurd (clash t)
 
-abbrev address_of : List ℕ → MemoryAddress
-address_of ns =
-    cond (eqb (at ns 0) 0) (Direct (at ns 1))
-    (cond (eqb (at ns 0) 1) (Offset (index (at ns 1)) (at ns 2))
-    (cond (eqb (at ns 0) 2) (OffsetR3 (index (at ns 1)))
-    (cond (eqb (at ns 0) 3) (PostIncrement (index (at ns 1)) (at ns 2))
-    (PreDecrement (index (at ns 1)) (at ns 2)))))
+pub operations_decided : (x y : Operation) → Decides (operation_test.ghosts.eq x y) (x ≡ y)
+operations_decided x y = (same_true operation_type.the_type tt x y, true_same operation_type.the_type x y)
 
-abbrev operation_at : List ℕ → Operation
-operation_at ns = unwrap_or (operation (at ns 1)) Cmpa
+instruction_told : (x y : Instruction) → instruction_test.ghosts.eq x y ≡ true → x ≡ y
+instruction_told Nop Nop t = refl
+instruction_told Halt Halt t = refl
+instruction_told Sflag Sflag t = refl
+instruction_told (Freq d) (Freq e) t = ap Freq (same_true division_type.the_type tt d e t)
+instruction_told Push Push t = refl
+instruction_told Pop Pop t = refl
+instruction_told Ret Ret t = refl
+instruction_told Reti Reti t = refl
+instruction_told (Jump c x) (Jump d y) t = let p = and_parts _ _ t in λ k. Jump (same_true condition_type.the_type tt c d p.0 k) (target_told x y p.1 k)
+instruction_told (Call x) (Call y) t = ap Call (target_told x y t)
+instruction_told (Calls x) (Calls y) t = ap Calls (target_told x y t)
+instruction_told (AluMemory f r m) (AluMemory g s n) t =
+    let p = and_parts _ _ t in
+    let q = and_parts _ _ p.1 in
+    λ k. AluMemory (same_true operation_type.the_type tt f g p.0 k) (same_true register_type.the_type tt r s q.0 k) (address_told m n q.1 k)
+instruction_told (AluImmediate f r a) (AluImmediate g s b) t =
+    let p = and_parts _ _ t in
+    let q = and_parts _ _ p.1 in
+    λ k. AluImmediate (same_true operation_type.the_type tt f g p.0 k) (same_true register_type.the_type tt r s q.0 k) (eqb-true a b q.1 k)
+instruction_told (AluOneSource f r a) (AluOneSource g s b) t =
+    let p = and_parts _ _ t in
+    let q = and_parts _ _ p.1 in
+    λ k. AluOneSource (same_true operation_type.the_type tt f g p.0 k) (same_true register_type.the_type tt r s q.0 k) (same_true register_type.the_type tt a b q.1 k)
+instruction_told (AluTwoSources f r a x) (AluTwoSources g s b y) t =
+    let p = and_parts _ _ t in
+    let q = and_parts _ _ p.1 in
+    let u = and_parts _ _ q.1 in
+    λ k. AluTwoSources (same_true operation_type.the_type tt f g p.0 k) (same_true register_type.the_type tt r s q.0 k) (same_true register_type.the_type tt a b u.0 k) (same_true register_type.the_type tt x y u.1 k)
+instruction_told (Store m r) (Store n s) t = let p = and_parts _ _ t in λ k. Store (address_told m n p.0 k) (same_true register_type.the_type tt r s p.1 k)
+instruction_told (StoreImmediate a x) (StoreImmediate b y) t = let p = and_parts _ _ t in λ k. StoreImmediate (eqb-true a b p.0 k) (eqb-true x y p.1 k)
+instruction_told x y t = absurd (clash t)
 
--- each variant, under its number
-abbrev instruction_of : List ℕ → Instruction
-instruction_of ns = get_or (
-    Nop ∷ Halt ∷ Sflag
-    ∷ Freq (unwrap_or (division (at ns 1)) Undivided)
-    ∷ Push ∷ Pop ∷ Ret ∷ Reti
-    ∷ Jump (condition (at ns 1)) (target_of (drop 2 ns))
-    ∷ Call (target_of (drop 1 ns))
-    ∷ Calls (target_of (drop 1 ns))
-    ∷ AluMemory (operation_at ns) (register (at ns 2)) (address_of (drop 3 ns))
-    ∷ AluImmediate (operation_at ns) (register (at ns 2)) (at ns 3)
-    ∷ AluOneSource (operation_at ns) (register (at ns 2)) (register (at ns 3))
-    ∷ AluTwoSources (operation_at ns) (register (at ns 2)) (register (at ns 3)) (register (at ns 4))
-    ∷ Store (address_of (drop 2 ns)) (register (at ns 1))
-    ∷ StoreImmediate (at ns 1) (at ns 2)
-    ∷ []
-    ) (at ns 0) Nop
+pub instructions_decided : (x y : Instruction) → Decides (instruction_test.ghosts.eq x y) (x ≡ y)
+instructions_decided x y = (instruction_told x y, λ e. subst (λ z. instruction_test.ghosts.eq x z ≡ true) e (instruction_laws.laws-law.refl x))
 
-register_back : (r : Register) → register (register_code r) ≡ r
-register_back r = ap (λ o. unwrap_or o A) (register_stands r).1
+-- ---- `==` compares the codes, and the numbers one by one.
+some_one : {X : Type 0} (x y : X) → ◌≡◌ {A = Option X} (Some x) (Some y) → x ≡ y
+some_one x y e = cc
 
-index_back : (ix : IndexRegister) → index (index_code ix) ≡ ix
-index_back ix = ap (λ o. unwrap_or o I3) (index_stands ix).1
+coded : (D : Declared) → Bare D.parts → (N : Naming D.D) (x y : D.D) → sameb D x y ≡ nat_eq (N.code x) (N.code y)
+coded D bare N x y =
+    let codes = unsigned_Decides (N.code x) (N.code y) in
+    let one : N.code x ≡ N.code y → x ≡ y = λ e. some_one x y (sym (N.stands x).1 ∙ ap (find N.code N.all) e ∙ (N.stands y).1) in
+    one_answer _ _ (same_true D bare x y, true_same D x y) (λ t. one (codes.0 t), λ e. codes.1 (ap N.code e))
 
-operation_back : (op : Operation) → unwrap_or (operation (operation_code op)) Cmpa ≡ op
-operation_back op = ap (λ o. unwrap_or o Cmpa) (operation_stands op).1
+register_coded : (x y : Register) → sameb register_type.the_type x y ≡ nat_eq (register_code x) (register_code y)
+register_coded = coded register_type.the_type tt by_register
 
-target_back : (t : Target) → target_of (target_numbers t) ≡ t
-target_back (Address a) = refl
-target_back Ip = refl
+index_coded : (x y : IndexRegister) → sameb index_type.the_type x y ≡ nat_eq (index_code x) (index_code y)
+index_coded = coded index_type.the_type tt by_index
 
-address_back : (m : MemoryAddress) → address_of (address_numbers m) ≡ m
-address_back (Direct a) = refl
-address_back (Offset ix offset) = ap (λ x. Offset x offset) (index_back ix)
-address_back (OffsetR3 ix) = ap OffsetR3 (index_back ix)
-address_back (PostIncrement ix step) = ap (λ x. PostIncrement x step) (index_back ix)
-address_back (PreDecrement ix step) = ap (λ x. PreDecrement x step) (index_back ix)
+pub told_by_code : (x y : Operation) → operation_test.ghosts.eq x y ≡ on operation_code nat_eq x y
+told_by_code = coded operation_type.the_type tt by_operation
 
-instruction_back : (i : Instruction) → instruction_of (numbers i) ≡ i
-instruction_back Nop = refl
-instruction_back Halt = refl
-instruction_back Sflag = refl
-instruction_back (Freq d) = ap (λ o. Freq (unwrap_or o Undivided)) (division_stands d).1
-instruction_back Push = refl
-instruction_back Pop = refl
-instruction_back Ret = refl
-instruction_back Reti = refl
-instruction_back (Jump c t) = λ k. Jump (unwrap_or ((condition_stands c).1 k) Event) (target_back t k)
-instruction_back (Call t) = ap Call (target_back t)
-instruction_back (Calls t) = ap Calls (target_back t)
-instruction_back (AluMemory op r source) = λ k. AluMemory (operation_back op k) (register_back r k) (address_back source k)
-instruction_back (AluImmediate op r value) = λ k. AluImmediate (operation_back op k) (register_back r k) value
-instruction_back (AluOneSource op result source) = λ k. AluOneSource (operation_back op k) (register_back result k) (register_back source k)
-instruction_back (AluTwoSources op result op1 op2) = λ k. AluTwoSources (operation_back op k) (register_back result k) (register_back op1 k) (register_back op2 k)
-instruction_back (Store target source) = λ k. Store (address_back target k) (register_back source k)
-instruction_back (StoreImmediate target value) = refl
+-- the last number stands before the end of the list
+last : (b : Bool) → b ≡ (b && true)
+last b = sym (and-true b)
+
+target_told_by_numbers : (x y : Target) → target_test.ghosts.eq x y ≡ pointwise nat_eq (target_numbers x) (target_numbers y)
+target_told_by_numbers (Address a) (Address b) = last (a == b)
+target_told_by_numbers Ip Ip = refl
+target_told_by_numbers x y = refl
+
+address_told_by_numbers : (x y : MemoryAddress) → address_test.ghosts.eq x y ≡ pointwise nat_eq (address_numbers x) (address_numbers y)
+address_told_by_numbers (Direct a) (Direct b) = last (a == b)
+address_told_by_numbers (Offset i a) (Offset j b) = λ k. index_coded i j k && last (a == b) k
+address_told_by_numbers (OffsetR3 i) (OffsetR3 j) = index_coded i j ∙ last _
+address_told_by_numbers (PostIncrement i a) (PostIncrement j b) = λ k. index_coded i j k && last (a == b) k
+address_told_by_numbers (PreDecrement i a) (PreDecrement j b) = λ k. index_coded i j k && last (a == b) k
+address_told_by_numbers x y = refl
+
+pub told_by_numbers : (x y : Instruction) → instruction_test.ghosts.eq x y ≡ on numbers (pointwise nat_eq) x y
+told_by_numbers Nop Nop = refl
+told_by_numbers Halt Halt = refl
+told_by_numbers Sflag Sflag = refl
+told_by_numbers Push Push = refl
+told_by_numbers Pop Pop = refl
+told_by_numbers Ret Ret = refl
+told_by_numbers Reti Reti = refl
+told_by_numbers (Freq d) (Freq e) = coded division_type.the_type tt by_division d e ∙ last _
+told_by_numbers (Jump c x) (Jump d y) = λ k. coded condition_type.the_type tt by_condition c d k && target_told_by_numbers x y k
+told_by_numbers (Call x) (Call y) = target_told_by_numbers x y
+told_by_numbers (Calls x) (Calls y) = target_told_by_numbers x y
+told_by_numbers (AluMemory f r m) (AluMemory g s n) = λ k. told_by_code f g k && (register_coded r s k && address_told_by_numbers m n k)
+told_by_numbers (AluImmediate f r a) (AluImmediate g s b) = λ k. told_by_code f g k && (register_coded r s k && last (a == b) k)
+told_by_numbers (AluOneSource f r a) (AluOneSource g s b) = λ k. told_by_code f g k && (register_coded r s k && (register_coded a b ∙ last _) k)
+told_by_numbers (AluTwoSources f r a x) (AluTwoSources g s b y) = λ k. told_by_code f g k && (register_coded r s k && (register_coded a b k && (register_coded x y ∙ last _) k))
+told_by_numbers (Store m r) (Store n s) = and_comm (address_test.ghosts.eq m n) (sameb register_type.the_type r s) ∙ (λ k. register_coded r s k && address_told_by_numbers m n k)
+told_by_numbers (StoreImmediate a x) (StoreImmediate b y) = λ k. a == b && last (x == y) k
+told_by_numbers x y = refl
 
 pub same_numbers : (x y : Instruction) → Decides (on numbers (pointwise nat_eq) x y) (x ≡ y)
-same_numbers x y =
-    let lists = pointwise_decides unsigned_Decides (numbers x) (numbers y) in
-    (λ t. sym (instruction_back x) ∙ ap instruction_of (lists.0 t) ∙ instruction_back y, λ e. lists.1 (ap numbers e))
+same_numbers x y = subst (λ told. Decides told (x ≡ y)) (told_by_numbers x y) (instructions_decided x y)
 
 pub same_code : (x y : Operation) → Decides (on operation_code nat_eq x y) (x ≡ y)
-same_code x y =
-    let codes = unsigned_Decides (operation_code x) (operation_code y) in
-    (λ t. sym (operation_back x) ∙ ap (λ n. unwrap_or (operation n) Cmpa) (codes.0 t) ∙ operation_back y, λ e. codes.1 (ap operation_code e))
-
--- a test that tells the same from the others is the comparison of the numbers
-pub told_by_numbers : (r : Bool) (x y : Instruction) → Decides r (x ≡ y) → r ≡ on numbers (pointwise nat_eq) x y
-told_by_numbers r x y d = one_answer r (on numbers (pointwise nat_eq) x y) d (same_numbers x y)
-
--- where all fields of an instruction but the last agree, the last one tells
-pub told_by_last : {X : Type 0} (f : X → Instruction) (a b : X) (x y : Instruction) → (f a ≡ f b → a ≡ b) → x ≡ f a → y ≡ f b → (r : Bool) → Decides r (a ≡ b) → Decides r (x ≡ y)
-told_by_last f a b x y apart p q r d = (λ t. p ∙ ap f (d.0 t) ∙ sym q, λ e. d.1 (apart (sym p ∙ e ∙ q)))
+same_code x y = subst (λ told. Decides told (x ≡ y)) (told_by_code x y) (operations_decided x y)

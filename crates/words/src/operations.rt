@@ -1,7 +1,5 @@
 // The operations of the ALU. One set serves all forms of instruction, so a form may lack an operation.
-ghost use Rattle.std.specs.Prelude.{◌≡◌, ◌<◌, Decides, nat_eq};
-ghost use Rattle.std.specs.Cmp.Rules.{comparing};
-ghost use Rattle.std.proofs.Common.{rules};
+ghost use Rattle.std.specs.Prelude.{◌≡◌, ◌<◌};
 ghost use Rattle.std.specs.Option.{ok_or};
 ghost use Rattle.words.specs.Codes.{operation_code, operation};
 ghost use Rattle.words.specs.Forms.{one_source, has_form};
@@ -10,7 +8,7 @@ ghost use Rattle.words.specs.declared.errors.DecodeError.TheVariants.{Reserved};
 use crate::errors::DecodeError;
 
 // The number of each variant is the code that names it in a word.
-#[derive(Clone, Copy, Eq, Debug)]
+#[derive(Clone, Copy, PartialEq, Eq, Debug)]
 pub enum Operation {
     Cmpa = 0,
     Cmp = 1,
@@ -54,21 +52,6 @@ pub enum Form {
     OneSource,
     // two registers
     TwoSources,
-}
-
-impl PartialEq for Operation {
-    ghost use Rattle.std.specs.Ordering.{on};
-
-    ghost eq = { on operation_code nat_eq };
-
-    ghost laws = { Prim.search (comparing, rules) };
-
-    fn eq(&self, other: &Operation) -> bool
-        ensures value { result ≡ on operation_code nat_eq self.now other.now }
-        ensures decides { Decides result (self.now ≡ other.now) }
-    {
-        u32::from(*self) == u32::from(*other)
-    }
 }
 
 impl From<Operation> for u32 {
