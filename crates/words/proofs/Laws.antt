@@ -1,7 +1,6 @@
 -- What reading and writing promise each other follows from how each goes about it.
 -- Assumes nothing.
 use Rattle.std.proofs.Common.{◌≡◌, ℕ, ◌^◌, ◌<◌, ◌≤◌, Bool, true, false, cond, ◌↔◌, Some, None, Ok, Err, Option, Result, sym, refl, ap, ◌∙◌, subst, ⊎_elim, arith, lit<}
-use borrow.Author.Tests.{clash}
 use Rattle.std.proofs.lemmas.Bool.{cases_lt}
 use Rattle.std.specs.Option.{ok_or}
 use Rattle.words.specs.Decoding.{first, rows, decoded}
@@ -36,9 +35,7 @@ module _ (w : ℕ) where
 
   no_row_from : decoded w ≡ Err Reserved → NoRow w
   no_row_from e i h =
-      let read = complete w i h in
-      let z : ◌≡◌ {A = ℕ} 0 1 = cc in
-      omega arith
+      let read = complete w i h in grind arith
 
   below_from : decoded w ≡ Err Reserved → w < 2 ^ 22
   below_from e =
@@ -56,17 +53,17 @@ module _ (w : ℕ) where
   wide_from e = ⊎_elim (λ lt. absurd (never (first rows w) (sym (narrow w lt) ∙ e))) (λ le. le) (cases_lt w (2 ^ 22))
     where
       never : (o : Option Instruction) → ok_or o Reserved ≡ Err TooWide → ⊥
-      never None e = let z : ◌≡◌ {A = ℕ} 0 1 = cc in omega arith
-      never (Some i) e = let z : ◌≡◌ {A = ℕ} 0 1 = cc in omega arith
+      never None e = grind arith
+      never (Some i) e = grind arith
 
   refused_25 : (r : Result Instruction DecodeError) → decode_refusal r ≡ Some (25, 0) → r ≡ Err Reserved
-  refused_25 (Ok i) e = let z : ◌≡◌ {A = ℕ} 0 1 = cc in absurd (omega arith)
+  refused_25 (Ok i) e = grind arith
   refused_25 (Err Reserved) e = refl
-  refused_25 (Err TooWide) e = let z : ◌≡◌ {A = ℕ} 30 25 = ap number e in absurd (omega arith)
+  refused_25 (Err TooWide) e = grind arith
 
   refused_30 : (r : Result Instruction DecodeError) → decode_refusal r ≡ Some (30, 0) → r ≡ Err TooWide
-  refused_30 (Ok i) e = let z : ◌≡◌ {A = ℕ} 0 1 = cc in absurd (omega arith)
-  refused_30 (Err Reserved) e = let z : ◌≡◌ {A = ℕ} 25 30 = ap number e in absurd (omega arith)
+  refused_30 (Ok i) e = grind arith
+  refused_30 (Err Reserved) e = grind arith
   refused_30 (Err TooWide) e = refl
 
   decoded_reads : Reads w (decoded w)
@@ -86,18 +83,18 @@ answer form fit w = cond form (cond fit (Ok w) (Err FieldRange)) (Err NoSuchForm
 
 answered : (form fit : Bool) (v w : ℕ) → answer form fit v ≡ Ok w → (form ≡ true) × (fit ≡ true) × (w ≡ v)
 answered true true v w e = (refl, refl, cc)
-answered true false v w e = let z : ◌≡◌ {A = ℕ} 0 1 = cc in absurd (omega arith)
-answered false fit v w e = let z : ◌≡◌ {A = ℕ} 0 1 = cc in absurd (omega arith)
+answered true false v w e = grind arith
+answered false fit v w e = grind arith
 
 answered_31 : (form fit : Bool) (v : ℕ) → (encode_refusal (answer form fit v) ≡ Some (31, 0)) ↔ (form ≡ false)
-answered_31 true true v = (λ e. let z : ◌≡◌ {A = ℕ} 0 1 = cc in absurd (omega arith), λ h. absurd (clash (sym h)))
-answered_31 true false v = (λ e. let z : ◌≡◌ {A = ℕ} 32 31 = ap number e in absurd (omega arith), λ h. absurd (clash (sym h)))
+answered_31 true true v = (λ e. grind arith, λ h. grind arith)
+answered_31 true false v = (λ e. grind arith, λ h. grind arith)
 answered_31 false fit v = (λ e. refl, λ h. refl)
 
 answered_32 : (form fit : Bool) (v : ℕ) → (encode_refusal (answer form fit v) ≡ Some (32, 0)) ↔ ((form ≡ true) × (fit ≡ false))
-answered_32 true true v = (λ e. let z : ◌≡◌ {A = ℕ} 0 1 = cc in absurd (omega arith), λ h. absurd (clash (sym h.1)))
+answered_32 true true v = (λ e. grind arith, λ h. grind arith)
 answered_32 true false v = (λ e. (refl, refl), λ h. refl)
-answered_32 false fit v = (λ e. let z : ◌≡◌ {A = ℕ} 31 32 = ap number e in absurd (omega arith), λ h. absurd (clash h.0))
+answered_32 false fit v = (λ e. grind arith, λ h. grind arith)
 
 encoded_word : (i : Instruction) (w : ℕ) → encoded i ≡ Ok w → WordOf w i
 unfolding encoded

@@ -37,7 +37,7 @@ said w x i e = let same : x ≡ i = cc in subst (WordOf w) same
 -- a row that asks for more than its prefix gives nothing where that is not met
 met : (b : Bool) (r : Option Instruction) (i : Instruction) → given b r ≡ Some i → (b ≡ true) × (r ≡ Some i)
 met true r i e = (refl, e)
-met false r i e = let z : ◌≡◌ {A = ℕ} 0 1 = cc in absurd (omega arith)
+met false r i e = grind arith
 
 -- the operation that was read has its code and its form
 operation_said : (form : Form) (n : ℕ) (f : Operation → Instruction) (i : Instruction) → option_map f (operation_in form n) ≡ Some i → (op : Operation) × (operation_code op ≡ n) × (has_form op form ≡ true) × (f op ≡ i)
@@ -45,10 +45,10 @@ operation_said form n f i e = found (operation n) refl e
   where
     formed_so : (op : Operation) → operation n ≡ Some op → (b : Bool) → has_form op form ≡ b → option_map f (cond b (Some op) None) ≡ Some i → (op : Operation) × (operation_code op ≡ n) × (has_form op form ≡ true) × (f op ≡ i)
     formed_so op at true has e = (op, find_code operation_code operations n op at, has, cc)
-    formed_so op at false has e = let z : ◌≡◌ {A = ℕ} 0 1 = cc in absurd (omega arith)
+    formed_so op at false has e = grind arith
 
     found : (o : Option Operation) → operation n ≡ o → option_map f (reading o (λ op. cond (has_form op form) (Some op) None)) ≡ Some i → (op : Operation) × (operation_code op ≡ n) × (has_form op form ≡ true) × (f op ≡ i)
-    found None at e = let z : ◌≡◌ {A = ℕ} 0 1 = cc in absurd (omega arith)
+    found None at e = grind arith
     found (Some op) at e = formed_so op at (has_form op form) refl e
 
 -- a word of x, which leaves no bits unread
@@ -160,7 +160,7 @@ sound_alu_registers : Sound (nth 14)
 sound_alu_registers w i h e = found (operation (bits w 12 5)) refl e
   where
     two : (op : Operation) → operation (bits w 12 5) ≡ Some op → (b : Bool) → has_form op TwoSources ≡ b → cond b (Some (AluTwoSources op (register (low w 4)) (register (bits w 4 4)) (register (bits w 8 4)))) None ≡ Some i → WordOf w i
-    two op at false has e = let z : ◌≡◌ {A = ℕ} 0 1 = cc in absurd (omega arith)
+    two op at false has e = grind arith
     two op at true has e =
         said w _ i e
         (word_of_lem w (AluTwoSources op (register (low w 4)) (register (bits w 4 4)) (register (bits w 8 4))) has refl
@@ -178,7 +178,7 @@ sound_alu_registers w i h e = found (operation (bits w 12 5)) refl e
         })
 
     found : (o : Option Operation) → operation (bits w 12 5) ≡ o → reading o (registers_of w) ≡ Some i → WordOf w i
-    found None at e = let z : ◌≡◌ {A = ℕ} 0 1 = cc in absurd (omega arith)
+    found None at e = grind arith
     found (Some op) at e = one op at (has_form op OneSource) refl e
 
 sound_halt : Sound (nth 15)
@@ -188,7 +188,7 @@ sound_freq : Sound (nth 16)
 sound_freq w i h e = found (division (low w 4)) refl e
   where
     found : (o : Option Division) → division (low w 4) ≡ o → option_map Freq o ≡ Some i → WordOf w i
-    found None at e = let z : ◌≡◌ {A = ℕ} 0 1 = cc in absurd (omega arith)
+    found None at e = grind arith
     found (Some d) at e = said w (Freq d) i e (word_of_lem w (Freq d) refl refl (let code = find_code division_code divisions (low w 4) d at in omega arith))
 
 sound_sflag : Sound (nth 17)
@@ -261,7 +261,7 @@ rows_sound : AllSound rows
 rows_sound = (sound_nop, (sound_ret, (sound_reti, (sound_pop, (sound_calls, (sound_call, (sound_jump, (sound_push, (sound_calls_ip, (sound_call_ip, (sound_jump_ip, (sound_alu_offset, (sound_alu_stepped, (sound_alu_immediate, (sound_alu_registers, (sound_halt, (sound_freq, (sound_sflag, (sound_alu_r3, (sound_alu_direct, (sound_store_r3, (sound_store_stepped, (sound_store_offset, (sound_store_direct, (sound_store_immediate, tt)))))))))))))))))))))))))
 
 first_sound : (rs : List Row) → AllSound rs → (w : ℕ) (i : Instruction) → first rs w ≡ Some i → WordOf w i
-first_sound [] s w i e = let z : ◌≡◌ {A = ℕ} 0 1 = cc in absurd (omega arith)
+first_sound [] s w i e = grind arith
 first_sound (r ∷ rs) s w i e = here (fits r w) refl e (first_sound rs s.1 w i)
   where
     here : (b : Bool) → fits r w ≡ b → cond b (r.meaning w) (first rs w) ≡ Some i → (first rs w ≡ Some i → WordOf w i) → WordOf w i
@@ -273,9 +273,9 @@ unfolding decoded
 sound w i e = below (leb (2 ^ 22) w) e
   where
     found : (o : Option Instruction) → first rows w ≡ o → ok_or o Reserved ≡ Ok i → WordOf w i
-    found None at e = let z : ◌≡◌ {A = ℕ} 0 1 = cc in absurd (omega arith)
+    found None at e = grind arith
     found (Some x) at e = let same : ◌≡◌ {A = Option Instruction} (Some x) (Some i) = cc in first_sound rows rows_sound w i (at ∙ same)
 
     below : (b : Bool) → cond b (Err TooWide) (ok_or (first rows w) Reserved) ≡ Ok i → WordOf w i
-    below true e = let z : ◌≡◌ {A = ℕ} 0 1 = cc in absurd (omega arith)
+    below true e = grind arith
     below false e = found (first rows w) refl e
