@@ -15,15 +15,6 @@ use Rattle.words.proofs.Complete.{complete}
 use Rattle.words.proofs.Fitting.{narrow, too_wide}
 use Rattle.words.proofs.Sound.{sound}
 
--- two instructions that are read from one word are one
-same_read : (i j : Instruction) → ◌≡◌ {A = Result Instruction DecodeError} (Ok i) (Ok j) → i ≡ j
-same_read i j e = cc
-
--- the number of a refusal
-abbrev number : Option (ℕ × ℕ) → ℕ
-number None = 0
-number (Some log) = log.0
-
 module _ (w : ℕ) where
   -- below 2 ^ 22 a number is an instruction or reserved, and no row is at odds with that
   reserved_from : w < 2 ^ 22 → NoRow w → decoded w ≡ Err Reserved
@@ -34,42 +25,27 @@ module _ (w : ℕ) where
       by (Some i) at = absurd (none i (sound w i (narrow w lt ∙ ap (λ o. ok_or o Reserved) at)))
 
   no_row_from : decoded w ≡ Err Reserved → NoRow w
-  no_row_from e i h =
-      let read = complete w i h in grind arith
+  no_row_from e i h = let read = complete w i h in grind arith
 
   below_from : decoded w ≡ Err Reserved → w < 2 ^ 22
-  below_from e =
-      ⊎_elim (λ lt. lt)
-      (λ le.
-      let wide = too_wide w le in
-      let z : ◌≡◌ {A = ℕ} 0 1 = apart e wide in
-      absurd (omega arith))
-      (cases_lt w (2 ^ 22))
-    where
-      apart : decoded w ≡ Err Reserved → decoded w ≡ Err TooWide → ◌≡◌ {A = ℕ} 0 1
-      apart p q = cc
+  below_from e = ⊎_elim (λ lt. lt) (λ le. let wide = too_wide w le in grind arith) (cases_lt w (2 ^ 22))
 
   wide_from : decoded w ≡ Err TooWide → 2 ^ 22 ≤ w
   wide_from e = ⊎_elim (λ lt. absurd (never (first rows w) (sym (narrow w lt) ∙ e))) (λ le. le) (cases_lt w (2 ^ 22))
     where
       never : (o : Option Instruction) → ok_or o Reserved ≡ Err TooWide → ⊥
-      never None e = grind arith
-      never (Some i) e = grind arith
+      never o e = grind arith
 
   refused_25 : (r : Result Instruction DecodeError) → decode_refusal r ≡ Some (25, 0) → r ≡ Err Reserved
-  refused_25 (Ok i) e = grind arith
-  refused_25 (Err Reserved) e = refl
-  refused_25 (Err TooWide) e = grind arith
+  refused_25 r e = grind arith
 
   refused_30 : (r : Result Instruction DecodeError) → decode_refusal r ≡ Some (30, 0) → r ≡ Err TooWide
-  refused_30 (Ok i) e = grind arith
-  refused_30 (Err Reserved) e = grind arith
-  refused_30 (Err TooWide) e = refl
+  refused_30 r e = grind arith
 
   decoded_reads : Reads w (decoded w)
   decoded_reads = record {
     instruction = λ i. (sound w i, complete w i);
-    one = λ i j hi hj. same_read i j (sym (complete w i hi) ∙ complete w j hj);
+    one = λ i j hi hj. let first = complete w i hi in let other = complete w j hj in cc;
     reserved = (λ e. let is = refused_25 (decoded w) e in (below_from is, no_row_from is), λ h. ap decode_refusal (reserved_from h.0 h.1));
     wide = (λ e. wide_from (refused_30 (decoded w) e), λ h. ap decode_refusal (too_wide w h));
   }
@@ -82,19 +58,13 @@ abbrev answer : Bool → Bool → ℕ → Result ℕ EncodeError
 answer form fit w = cond form (cond fit (Ok w) (Err FieldRange)) (Err NoSuchForm)
 
 answered : (form fit : Bool) (v w : ℕ) → answer form fit v ≡ Ok w → (form ≡ true) × (fit ≡ true) × (w ≡ v)
-answered true true v w e = (refl, refl, cc)
-answered true false v w e = grind arith
-answered false fit v w e = grind arith
+answered form fit v w e = grind arith
 
 answered_31 : (form fit : Bool) (v : ℕ) → (encode_refusal (answer form fit v) ≡ Some (31, 0)) ↔ (form ≡ false)
-answered_31 true true v = (λ e. grind arith, λ h. grind arith)
-answered_31 true false v = (λ e. grind arith, λ h. grind arith)
-answered_31 false fit v = (λ e. refl, λ h. refl)
+answered_31 form fit v = (λ e. grind arith, λ h. grind arith)
 
 answered_32 : (form fit : Bool) (v : ℕ) → (encode_refusal (answer form fit v) ≡ Some (32, 0)) ↔ ((form ≡ true) × (fit ≡ false))
-answered_32 true true v = (λ e. grind arith, λ h. grind arith)
-answered_32 true false v = (λ e. (refl, refl), λ h. refl)
-answered_32 false fit v = (λ e. grind arith, λ h. grind arith)
+answered_32 form fit v = (λ e. grind arith, λ h. grind arith)
 
 encoded_word : (i : Instruction) (w : ℕ) → encoded i ≡ Ok w → WordOf w i
 unfolding encoded
@@ -104,16 +74,13 @@ encoded_word i w e =
 
 -- what is read as an instruction is no wider than a word
 read_below : (w : ℕ) (i : Instruction) → decoded w ≡ Ok i → w < 2 ^ 22
-read_below w i e = ⊎_elim (λ lt. lt) (λ le. let z : ◌≡◌ {A = ℕ} 0 1 = apart e (too_wide w le) in absurd (omega arith)) (cases_lt w (2 ^ 22))
-  where
-    apart : decoded w ≡ Ok i → decoded w ≡ Err TooWide → ◌≡◌ {A = ℕ} 0 1
-    apart p q = cc
+read_below w i e = ⊎_elim (λ lt. lt) (λ le. let wide = too_wide w le in grind arith) (cases_lt w (2 ^ 22))
 
 encoded_writes : (i : Instruction) → Writes i (encoded i)
 unfolding encoded
 encoded_writes i = record {
   word = λ w e. let read = complete w i (encoded_word i w e) in (read_below w i read, read);
-  one = λ w j e f. same_read j i (sym (complete w j (encoded_word j w f)) ∙ complete w i (encoded_word i w e));
+  one = λ w j e f. let first = complete w i (encoded_word i w e) in let other = complete w j (encoded_word j w f) in cc;
   no_form = answered_31 (formed i) (fields_fit i) (word_of i);
   field = answered_32 (formed i) (fields_fit i) (word_of i);
 }
