@@ -1,14 +1,13 @@
 -- A word that fits the row of an instruction is read as that instruction.
 -- Assumes nothing.
 use Rattle.std.proofs.Common.{◌≡◌, ℕ, ◌+◌, ◌-◌, ◌*◌, ◌^◌, ◌<◌, ◌≤◌, true, false, cond, ltb, leb, length, get_or, Some, None, Ok, Option, unwrap_or, refl, ap, ◌∙◌, arith, lit<}
-use borrow.Author.Tests.{clash}
 use Rattle.std.proofs.lemmas.Bool.{ltb-true, leb-true, eq-eqb, ne_eqb, and_parts, cond-true, cond-false}
 use Rattle.std.specs.Option.{option_map, ok_or}
 use Rattle.words.specs.Bits.{low, bits, inverted, inverted_bits}
 use Rattle.words.specs.Codes.{register_code, register, index_code, index, condition_code, condition, operation_code}
 use Rattle.words.specs.Decoding.{rows, reading, operation_in, alu_memory, registers_of, stepped, decoded}
 use Rattle.words.specs.Encoding.{alu_fields}
-use Rattle.words.specs.Forms.{Kind, move, unary, binary, mask, kind, in_form, has_form}
+use Rattle.words.specs.Forms.{Kind, kind, in_form, has_form}
 use Rattle.words.specs.Laws.{WordOf}
 use Rattle.words.specs.declared.addresses.MemoryAddress.{MemoryAddress}
 use Rattle.words.specs.declared.addresses.MemoryAddress.TheVariants.{Direct, Offset, OffsetR3, PostIncrement, PreDecrement}
@@ -73,10 +72,7 @@ two_not_one : (op : Operation) → has_form op TwoSources ≡ true → has_form 
 two_not_one op h = kinds (kind op) h
   where
     kinds : (k : Kind) → in_form k TwoSources ≡ true → in_form k OneSource ≡ false
-    kinds move h = absurd (clash h)
-    kinds unary h = absurd (clash h)
-    kinds binary h = refl
-    kinds mask h = refl
+    kinds k h = grind arith
 
 -- row k fits w, and says what w is
 row_says : (k : ℕ) → k < length rows → (w : ℕ) → Has (get_or rows k none) w → {i : Instruction} → (get_or rows k none).meaning w ≡ Some i → decoded w ≡ Ok i

@@ -50,8 +50,8 @@ module _ (w : ℕ) where
     wide = (λ e. wide_from (refused_30 (decoded w) e), λ h. ap decode_refusal (too_wide w h));
   }
 
-pub reads : (w : ℕ) (r : Result Instruction DecodeError) → r ≡ decoded w → (r ≡ decoded w) × Reads w r
-reads w r e = (e, subst (Reads w) (sym e) (decoded_reads w))
+pub reads : (w : ℕ) (r : Result Instruction DecodeError) → r ≡ decoded w → Reads w r
+reads w r e = subst (Reads w) (sym e) (decoded_reads w)
 
 -- what writing answers, by whether the form has the operation and whether the fields fit
 abbrev answer : Bool → Bool → ℕ → Result ℕ EncodeError
@@ -85,5 +85,5 @@ encoded_writes i = record {
   field = answered_32 (formed i) (fields_fit i) (word_of i);
 }
 
-pub writes : (i : Instruction) (r : Result ℕ EncodeError) → r ≡ encoded i → (r ≡ encoded i) × Writes i r
-writes i r e = (e, subst (Writes i) (sym e) (encoded_writes i))
+pub writes : (i : Instruction) (r : Result ℕ EncodeError) → r ≡ encoded i → Writes i r
+writes i r e = subst (Writes i) (sym e) (encoded_writes i)

@@ -1,6 +1,6 @@
 -- An instruction that is read from a word has a row that the word fits.
 -- Assumes nothing.
-use Rattle.std.proofs.Common.{◌≡◌, ℕ, ◌+◌, ◌-◌, ◌/◌, ◌^◌, Bool, true, false, cond, eqb, ltb, leb, List, [], ◌∷◌, get_or, Some, None, Ok, Err, Option, refl, ◌∙◌, subst, arith, lit<}
+use Rattle.std.proofs.Common.{◌≡◌, ℕ, ◌+◌, ◌-◌, ◌/◌, ◌^◌, Bool, true, false, cond, eqb, ltb, leb, List, [], ◌∷◌, get_or, Some, None, Ok, Err, Option, refl, subst, arith, lit<}
 use Rattle.std.proofs.lemmas.Bool.{lt-ltb, le-leb, eqb-true, eqb-false, and_from}
 use Rattle.std.specs.Option.{option_map, ok_or}
 use Rattle.words.specs.Bits.{low, bits, inverted, inverted_bits, ones}
@@ -30,36 +30,33 @@ use Rattle.words.proofs.Fitting.{Has, none}
 abbrev Sound : Row → Type 0
 Sound r = (w : ℕ) (i : Instruction) → Has r w → r.meaning w ≡ Some i → WordOf w i
 
--- the instruction that was read is the one that the row gives
-said : (w : ℕ) (x i : Instruction) → ◌≡◌ {A = Option Instruction} (Some x) (Some i) → WordOf w x → WordOf w i
-said w x i e = let same : x ≡ i = cc in subst (WordOf w) same
+-- the instruction that was read is the x that the row gives, which leaves no bits unread
+said : (w : ℕ) (x i : Instruction) → ◌≡◌ {A = Option Instruction} (Some x) (Some i) → formed x ≡ true → fields_fit x ≡ true → w ≡ word_with 0 x → WordOf w i
+said w x i e form fields sum =
+    let same : x ≡ i = cc in
+    subst (WordOf w) same (record { form = form; fields = fields; unread = 0; four = lit< tt; sum = sum })
 
 -- a row that asks for more than its prefix gives nothing where that is not met
 met : (b : Bool) (r : Option Instruction) (i : Instruction) → given b r ≡ Some i → (b ≡ true) × (r ≡ Some i)
-met true r i e = (refl, e)
-met false r i e = grind arith
+met b r i e = grind arith
 
 -- the operation that was read has its code and its form
-operation_said : (form : Form) (n : ℕ) (f : Operation → Instruction) (i : Instruction) → option_map f (operation_in form n) ≡ Some i → (op : Operation) × (operation_code op ≡ n) × (has_form op form ≡ true) × (f op ≡ i)
+operation_said : (form : Form) (n : ℕ) (f : Operation → Instruction) (i : Instruction) → option_map f (operation_in form n) ≡ Some i → (op : Operation) × (operation_code op ≡ n) × (has_form op form ≡ true) × ◌≡◌ {A = Option Instruction} (Some (f op)) (Some i)
 operation_said form n f i e = found (operation n) refl e
   where
-    formed_so : (op : Operation) → operation n ≡ Some op → (b : Bool) → has_form op form ≡ b → option_map f (cond b (Some op) None) ≡ Some i → (op : Operation) × (operation_code op ≡ n) × (has_form op form ≡ true) × (f op ≡ i)
-    formed_so op at true has e = (op, find_code operation_code operations n op at, has, cc)
+    formed_so : (op : Operation) → operation n ≡ Some op → (b : Bool) → has_form op form ≡ b → option_map f (cond b (Some op) None) ≡ Some i → (op : Operation) × (operation_code op ≡ n) × (has_form op form ≡ true) × ◌≡◌ {A = Option Instruction} (Some (f op)) (Some i)
+    formed_so op at true has e = (op, find_code operation_code operations n op at, has, e)
     formed_so op at false has e = grind arith
 
-    found : (o : Option Operation) → operation n ≡ o → option_map f (reading o (λ op. cond (has_form op form) (Some op) None)) ≡ Some i → (op : Operation) × (operation_code op ≡ n) × (has_form op form ≡ true) × (f op ≡ i)
+    found : (o : Option Operation) → operation n ≡ o → option_map f (reading o (λ op. cond (has_form op form) (Some op) None)) ≡ Some i → (op : Operation) × (operation_code op ≡ n) × (has_form op form ≡ true) × ◌≡◌ {A = Option Instruction} (Some (f op)) (Some i)
     found None at e = grind arith
     found (Some op) at e = formed_so op at (has_form op form) refl e
-
--- a word of x, which leaves no bits unread
-word_of_lem : (w : ℕ) (x : Instruction) → formed x ≡ true → fields_fit x ≡ true → w ≡ word_with 0 x → WordOf w x
-word_of_lem w x form fields sum = record { form = form; fields = fields; unread = 0; four = lit< tt; sum = sum }
 
 -- an ALU operation on memory, of which the rest of the word is known
 memory_said : (w : ℕ) (source : MemoryAddress) (i : Instruction) → alu_memory w source ≡ Some i → address_fits source ≡ true → ((op : Operation) (r : Register) → operation_code op ≡ bits w 12 5 → register_code r ≡ bits w 8 4 → w ≡ alu_memory_word op r source) → WordOf w i
 memory_said w source i e fit sum =
     let read = operation_said Memory (bits w 12 5) (λ op. AluMemory op (register (bits w 8 4)) source) i e in
-    subst (WordOf w) read.3 (word_of_lem w (AluMemory read.0 (register (bits w 8 4)) source) read.2 fit (sum read.0 (register (bits w 8 4)) read.1 (register_code-register (bits w 8 4) (omega arith))))
+    said w (AluMemory read.0 (register (bits w 8 4)) source) i read.3 read.2 fit (sum read.0 (register (bits w 8 4)) read.1 (register_code-register (bits w 8 4) (omega arith)))
 
 -- a step fits its field, and is held there
 stepped_fits : (w : ℕ) (ix : IndexRegister) → address_fits (stepped w ix) ≡ true
@@ -73,37 +70,37 @@ abbrev nth : ℕ → Row
 nth k = get_or rows k none
 
 sound_nop : Sound (nth 0)
-sound_nop w i h e = said w Nop i e (word_of_lem w Nop refl refl (omega arith))
+sound_nop w i h e = said w Nop i e refl refl (omega arith)
 
 sound_ret : Sound (nth 1)
-sound_ret w i h e = said w Ret i e (word_of_lem w Ret refl refl (omega arith))
+sound_ret w i h e = said w Ret i e refl refl (omega arith)
 
 sound_reti : Sound (nth 2)
-sound_reti w i h e = said w Reti i e (word_of_lem w Reti refl refl (omega arith))
+sound_reti w i h e = said w Reti i e refl refl (omega arith)
 
 sound_pop : Sound (nth 3)
-sound_pop w i h e = said w Pop i e (word_of_lem w Pop refl refl (omega arith))
+sound_pop w i h e = said w Pop i e refl refl (omega arith)
 
 sound_calls : Sound (nth 4)
-sound_calls w i h e = said w _ i e (word_of_lem w (Calls (Address (inverted w 16))) refl (lt-ltb _ _ (omega arith)) (omega arith))
+sound_calls w i h e = said w (Calls (Address (inverted w 16))) i e refl (lt-ltb _ _ (omega arith)) (omega arith)
 
 sound_call : Sound (nth 5)
-sound_call w i h e = said w _ i e (word_of_lem w (Call (Address (inverted w 16))) refl (lt-ltb _ _ (omega arith)) (omega arith))
+sound_call w i h e = said w (Call (Address (inverted w 16))) i e refl (lt-ltb _ _ (omega arith)) (omega arith)
 
 jump_sum : (w : ℕ) (c : Condition) → w / 2 ^ 19 ≡ 0b110 → condition_code c ≡ bits w 16 3 → w ≡ word_with 0 (Jump c (Address (inverted w 16)))
 jump_sum w c h code = omega arith
 
 sound_jump : Sound (nth 6)
-sound_jump w i h e = said w _ i e (word_of_lem w (Jump (condition (bits w 16 3)) (Address (inverted w 16))) refl (lt-ltb _ _ (omega arith)) (jump_sum w _ h (condition_code-condition (bits w 16 3) (omega arith))))
+sound_jump w i h e = said w (Jump (condition (bits w 16 3)) (Address (inverted w 16))) i e refl (lt-ltb _ _ (omega arith)) (jump_sum w _ h (condition_code-condition (bits w 16 3) (omega arith)))
 
 sound_push : Sound (nth 7)
-sound_push w i h e = said w Push i e (word_of_lem w Push refl refl (omega arith))
+sound_push w i h e = said w Push i e refl refl (omega arith)
 
 sound_calls_ip : Sound (nth 8)
-sound_calls_ip w i h e = said w (Calls Ip) i e (word_of_lem w (Calls Ip) refl refl (omega arith))
+sound_calls_ip w i h e = said w (Calls Ip) i e refl refl (omega arith)
 
 sound_call_ip : Sound (nth 9)
-sound_call_ip w i h e = said w (Call Ip) i e (word_of_lem w (Call Ip) refl refl (omega arith))
+sound_call_ip w i h e = said w (Call Ip) i e refl refl (omega arith)
 
 jump_ip_sum : (w : ℕ) (c : Condition) → w / 2 ^ 19 ≡ 0b100 → low w 16 ≡ 0xFFFF → condition_code c ≡ bits w 16 3 → w ≡ word_with 0 (Jump c Ip)
 jump_ip_sum w c h ones code = omega arith
@@ -111,7 +108,7 @@ jump_ip_sum w c h ones code = omega arith
 sound_jump_ip : Sound (nth 10)
 sound_jump_ip w i h e =
     let parts = met (ones (low w 16) 16) (Some (Jump (condition (bits w 16 3)) Ip)) i e in
-    said w _ i parts.1 (word_of_lem w (Jump (condition (bits w 16 3)) Ip) refl refl (jump_ip_sum w _ h (eqb-true _ _ parts.0) (condition_code-condition (bits w 16 3) (omega arith))))
+    said w (Jump (condition (bits w 16 3)) Ip) i parts.1 refl refl (jump_ip_sum w _ h (eqb-true _ _ parts.0) (condition_code-condition (bits w 16 3) (omega arith)))
 
 alu_offset_sum : (w : ℕ) (op : Operation) (r : Register) (ix : IndexRegister) → w / 2 ^ 19 ≡ 0b011 → operation_code op ≡ bits w 12 5 → register_code r ≡ bits w 8 4 → index_code ix ≡ bits w 17 2 → w ≡ alu_memory_word op r (Offset ix (low w 8))
 alu_offset_sum w op r ix h eo er ex = omega (arith, ended w 8, parted w 8 4, parted w 12 5, parted w 17 2)
@@ -147,8 +144,8 @@ alu_immediate_sum w op r h eo er = omega (arith, ended w 8, parted w 8 4, parted
 sound_alu_immediate : Sound (nth 13)
 sound_alu_immediate w i h e =
     let read = operation_said Immediate (bits w 12 4) (λ op. AluImmediate op (register (bits w 8 4)) (inverted w 8)) i e in
-    subst (WordOf w) read.3
-    (word_of_lem w (AluImmediate read.0 (register (bits w 8 4)) (inverted w 8)) read.2 (lt-ltb _ _ (omega arith)) (alu_immediate_sum w read.0 (register (bits w 8 4)) h read.1 (register_code-register (bits w 8 4) (omega arith))))
+    said w (AluImmediate read.0 (register (bits w 8 4)) (inverted w 8)) i read.3 read.2 (lt-ltb _ _ (omega arith))
+    (alu_immediate_sum w read.0 (register (bits w 8 4)) h read.1 (register_code-register (bits w 8 4) (omega arith)))
 
 one_source_sum : (w : ℕ) (op : Operation) (result source : Register) → w / 2 ^ 17 ≡ 0b00110 → operation_code op ≡ bits w 12 5 → register_code source ≡ bits w 4 4 → register_code result ≡ low w 4 → w ≡ word_with (bits w 8 4) (AluOneSource op result source)
 one_source_sum w op result source h eo es er = omega (arith, ended w 4, parted w 4 4, parted w 8 4, parted w 12 5)
@@ -162,14 +159,14 @@ sound_alu_registers w i h e = found (operation (bits w 12 5)) refl e
     two : (op : Operation) → operation (bits w 12 5) ≡ Some op → (b : Bool) → has_form op TwoSources ≡ b → cond b (Some (AluTwoSources op (register (low w 4)) (register (bits w 4 4)) (register (bits w 8 4)))) None ≡ Some i → WordOf w i
     two op at false has e = grind arith
     two op at true has e =
-        said w _ i e
-        (word_of_lem w (AluTwoSources op (register (low w 4)) (register (bits w 4 4)) (register (bits w 8 4))) has refl
-        (two_sources_sum w op _ _ _ h (find_code operation_code operations (bits w 12 5) op at) (register_code-register (bits w 8 4) (omega arith)) (register_code-register (bits w 4 4) (omega arith)) (register_code-register (low w 4) (omega arith))))
+        said w (AluTwoSources op (register (low w 4)) (register (bits w 4 4)) (register (bits w 8 4))) i e has refl
+        (two_sources_sum w op _ _ _ h (find_code operation_code operations (bits w 12 5) op at) (register_code-register (bits w 8 4) (omega arith)) (register_code-register (bits w 4 4) (omega arith)) (register_code-register (low w 4) (omega arith)))
 
     one : (op : Operation) → operation (bits w 12 5) ≡ Some op → (b : Bool) → has_form op OneSource ≡ b → cond b (Some (AluOneSource op (register (low w 4)) (register (bits w 4 4)))) (cond (has_form op TwoSources) (Some (AluTwoSources op (register (low w 4)) (register (bits w 4 4)) (register (bits w 8 4)))) None) ≡ Some i → WordOf w i
     one op at false has e = two op at (has_form op TwoSources) refl e
     one op at true has e =
-        said w _ i e (record {
+        let same : AluOneSource op (register (low w 4)) (register (bits w 4 4)) ≡ i = cc in
+        subst (WordOf w) same (record {
           form = has;
           fields = refl;
           unread = bits w 8 4;
@@ -182,17 +179,17 @@ sound_alu_registers w i h e = found (operation (bits w 12 5)) refl e
     found (Some op) at e = one op at (has_form op OneSource) refl e
 
 sound_halt : Sound (nth 15)
-sound_halt w i h e = said w Halt i e (word_of_lem w Halt refl refl (omega arith))
+sound_halt w i h e = said w Halt i e refl refl (omega arith)
 
 sound_freq : Sound (nth 16)
 sound_freq w i h e = found (division (low w 4)) refl e
   where
     found : (o : Option Division) → division (low w 4) ≡ o → option_map Freq o ≡ Some i → WordOf w i
     found None at e = grind arith
-    found (Some d) at e = said w (Freq d) i e (word_of_lem w (Freq d) refl refl (let code = find_code division_code divisions (low w 4) d at in omega arith))
+    found (Some d) at e = said w (Freq d) i e refl refl (let code = find_code division_code divisions (low w 4) d at in omega arith)
 
 sound_sflag : Sound (nth 17)
-sound_sflag w i h e = said w Sflag i e (word_of_lem w Sflag refl refl (omega arith))
+sound_sflag w i h e = said w Sflag i e refl refl (omega arith)
 
 alu_r3_sum : (w : ℕ) (op : Operation) (r : Register) (ix : IndexRegister) → w / 2 ^ 17 ≡ 0b00011 → bits w 2 6 ≡ 0b111111 → operation_code op ≡ bits w 12 5 → register_code r ≡ bits w 8 4 → index_code ix ≡ low w 2 → w ≡ alu_memory_word op r (OffsetR3 ix)
 alu_r3_sum w op r ix h ones eo er ex = omega (arith, ended w 2, parted w 2 6, parted w 8 4, parted w 12 5)
@@ -211,7 +208,7 @@ sound_alu_direct w i h e = memory_said w (Direct (inverted w 8)) i e (lt-ltb _ _
 
 -- a move to memory, of which the rest of the word is known
 store_said : (w : ℕ) (target : MemoryAddress) (i : Instruction) → ◌≡◌ {A = Option Instruction} (Some (Store target (register (bits w 8 4)))) (Some i) → address_fits target ≡ true → ((r : Register) → register_code r ≡ bits w 8 4 → w ≡ store_word target r) → WordOf w i
-store_said w target i e fit sum = said w _ i e (word_of_lem w (Store target (register (bits w 8 4))) refl fit (sum (register (bits w 8 4)) (register_code-register (bits w 8 4) (omega arith))))
+store_said w target i e fit sum = said w (Store target (register (bits w 8 4))) i e refl fit (sum (register (bits w 8 4)) (register_code-register (bits w 8 4) (omega arith)))
 
 store_r3_sum : (w : ℕ) (r : Register) (ix : IndexRegister) → w / 2 ^ 14 ≡ 0b00001110 → low w 8 ≡ 0xFF → register_code r ≡ bits w 8 4 → index_code ix ≡ bits w 12 2 → w ≡ store_word (OffsetR3 ix) r
 store_r3_sum w r ix h ones er ex = omega (arith, ended w 8, parted w 8 4, parted w 12 2)
@@ -248,10 +245,9 @@ sound_store_direct w i h e = store_said w (Direct (inverted w 8)) i e (lt-ltb _ 
 
 sound_store_immediate : Sound (nth 24)
 sound_store_immediate w i h e =
-    said w _ i e
-    (word_of_lem w (StoreImmediate (inverted w 8) (inverted_bits w 8 8)) refl
+    said w (StoreImmediate (inverted w 8) (inverted_bits w 8 8)) i e refl
     (and_from (ltb (inverted w 8) (2 ^ 8)) (ltb (inverted_bits w 8 8) (2 ^ 8)) (lt-ltb _ _ (omega arith)) (lt-ltb _ _ (omega arith)))
-    (omega (arith, ended w 8, parted w 8 8)))
+    (omega (arith, ended w 8, parted w 8 8))
 
 abbrev AllSound : List Row → Type 0
 AllSound [] = Unit {0}
@@ -270,12 +266,7 @@ first_sound (r ∷ rs) s w i e = here (fits r w) refl e (first_sound rs s.1 w i)
 
 pub sound : (w : ℕ) (i : Instruction) → decoded w ≡ Ok i → WordOf w i
 unfolding decoded
-sound w i e = below (leb (2 ^ 22) w) e
+sound w i e = first_sound rows rows_sound w i (read (leb (2 ^ 22) w) (first rows w) e)
   where
-    found : (o : Option Instruction) → first rows w ≡ o → ok_or o Reserved ≡ Ok i → WordOf w i
-    found None at e = grind arith
-    found (Some x) at e = let same : ◌≡◌ {A = Option Instruction} (Some x) (Some i) = cc in first_sound rows rows_sound w i (at ∙ same)
-
-    below : (b : Bool) → cond b (Err TooWide) (ok_or (first rows w) Reserved) ≡ Ok i → WordOf w i
-    below true e = grind arith
-    below false e = found (first rows w) refl e
+    read : (wide : Bool) (o : Option Instruction) → cond wide (Err TooWide) (ok_or o Reserved) ≡ Ok i → o ≡ Some i
+    read wide o e = grind arith

@@ -1,6 +1,8 @@
 // Examples of words, of refusals and of their order.
 use crate::addresses::*;
+use crate::conditions::*;
 use crate::decoder::*;
+use crate::divisions::*;
 use crate::encoder::*;
 use crate::errors::*;
 use crate::examples::*;
@@ -104,4 +106,17 @@ fn what_is_no_instruction_is_refused(rt: HostRuntime) {
     assert_eq!(rt; decode(0x40_0000), Err(DecodeError::TooWide));
     assert_eq!(rt; DecodeError::Reserved.number(), 25);
     assert_eq!(rt; DecodeError::TooWide.number(), 30);
+}
+
+#[test]
+fn codes_go_both_ways_unless_they_name_nothing(rt: HostRuntime) {
+    assert_eq!(rt; u32::from(Register::R3), 11);
+    assert_eq!(rt; u32::from(IndexRegister::I2), 2);
+    assert_eq!(rt; u32::from(Condition::Event), 7);
+    assert_eq!(rt; u32::from(Division::By4), 12);
+    assert_eq!(rt; Division::try_from(12), Ok(Division::By4));
+    assert_eq!(rt; Division::try_from(1), Err(DecodeError::Reserved));
+    assert_eq!(rt; u32::from(Operation::Shra), 16);
+    assert_eq!(rt; Operation::try_from(16), Ok(Operation::Shra));
+    assert_eq!(rt; Operation::try_from(9), Err(DecodeError::Reserved));
 }

@@ -22,7 +22,7 @@ abbrev Says : ℕ → Result Instruction DecodeError → Type 0
 Says w r = record { value : r ≡ decoded w; reads : Reads w r }
 
 said : (w : ℕ) (r : Result Instruction DecodeError) → r ≡ decoded w → Says w r
-said w r e = let both = reads w r e in record { value = both.0; reads = both.1 }
+said w r e = record { value = e; reads = reads w r e }
 
 -- row k fits w, and what it says is what was answered
 row : (k : ℕ) → k < length rows → (w : ℕ) (r : Result Instruction DecodeError) → Has (get_or rows k none) w → ok_or ((get_or rows k none).meaning w) Reserved ≡ r → Says w r

@@ -9,7 +9,7 @@ use Rattle.words.proofs.encoder.encode.Goals as goal
 
 -- what the contract says of an answer
 said : (i : Instruction) (r : Result ℕ EncodeError) → r ≡ encoded i → record { value : r ≡ encoded i; writes : Writes i r }
-said i r e = let both = writes i r e in record { value = both.0; writes = both.1 }
+said i r e = record { value = e; writes = writes i r e }
 
 pub returns-then-not-has_its_form : goal.returns-then-not-has_its_form
 unfolding encoded
