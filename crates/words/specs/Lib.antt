@@ -6,4 +6,5 @@ pub mod Equality
 pub mod Examples
 pub mod Forms
 pub mod Laws
+pub mod Notation
 pub mod Refusals

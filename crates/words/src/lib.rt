@@ -9,6 +9,7 @@ pub mod encoder;
 pub mod errors;
 pub mod examples;
 pub mod instructions;
+mod notation;
 pub mod operations;
 pub mod registers;
 mod rows;
