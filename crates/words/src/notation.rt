@@ -185,17 +185,11 @@ impl fmt::Display for Instruction {
             } => write!(f, "{operation} {result}, {source}"),
             // A comparison names what is compared, destination and source, and no result.
             Instruction::AluTwoSources {
-                operation: Operation::Cmp,
+                operation: operation @ (Operation::Cmp | Operation::Cmpa),
                 op1,
                 op2,
                 ..
-            } => write!(f, "CMP {op2}, {op1}"),
-            Instruction::AluTwoSources {
-                operation: Operation::Cmpa,
-                op1,
-                op2,
-                ..
-            } => write!(f, "CMPA {op2}, {op1}"),
+            } => write!(f, "{operation} {op2}, {op1}"),
             Instruction::AluTwoSources {
                 operation,
                 result,
