@@ -1,6 +1,8 @@
 // The lines of a listing.
-use crate::images::{ending, word_at, word_count};
-use crate::notation::Notation;
+ghost use Rattle.std.specs.Prelude.{Some};
+ghost use Rattle.listing.specs.Lines.{line_text};
+
+use crate::images::{ending, word_of};
 use std::io::Write;
 use std::{fmt, io};
 use words::decode;
@@ -13,14 +15,12 @@ pub struct Line {
 }
 
 impl fmt::Display for Line {
+    ghost output = { λ line. Some (line_text line) };
+
     fn fmt<W: fmt::Write>(&self, f: &mut fmt::Formatter<W>) -> fmt::Result {
-        let address = self.address;
-        let word = self.word;
+        let Line { address, word } = *self;
         match decode(word) {
-            Ok(instruction) => {
-                let text = Notation(instruction);
-                write!(f, "{address:04X} {word:06X} {text}")
-            }
+            Ok(instruction) => write!(f, "{address:04X} {word:06X} {instruction}"),
             Err(error) => {
                 let number = error.number();
                 write!(f, "{address:04X} {word:06X} refused {number}")
@@ -31,13 +31,16 @@ impl fmt::Display for Line {
 
 // Writes a line for each word of the image, and the last line.
 pub fn write_listing<W: Write>(out: &mut W, image: &[u8]) -> io::Result<()> {
-    for address in 0..word_count(image) {
+    let (whole, _) = image.as_chunks::<3>();
+    for (address, bytes) in whole.iter().enumerate() {
         let line = Line {
             address,
-            word: word_at(image, address),
+            word: word_of(*bytes),
         };
         writeln!(out, "{line}")?;
     }
-    let last = ending(image);
-    writeln!(out, "{last}")
+    match ending(image) {
+        Ok(tally) => writeln!(out, "{tally}"),
+        Err(error) => writeln!(out, "{error}"),
+    }
 }

@@ -1,7 +1,8 @@
 // The notation of each form, and the line at the end.
-use crate::endings::*;
+use crate::errors::*;
 use crate::images::*;
 use crate::lines::*;
+use crate::tallies::*;
 use std::test::Fail;
 
 #[test]
@@ -27,27 +28,22 @@ fn lines_are_in_the_notation_of_the_manual(rt: HostRuntime) -> Result<(), Fail> 
 fn the_last_line_counts_or_refuses(rt: HostRuntime) -> Result<(), Fail> {
     let heap = rt.alloc();
     let image = [0x3F, 0xFF, 0xFF, 0x0B, 0xEF, 0xFF, 0x40, 0x00, 0x00];
-    let counted = ending(&image);
+    let tally = Tally {
+        words: 3,
+        refused: 2,
+    };
+    assert_eq!(rt; ending(&image), Ok(tally));
+    assert_eq!(rt; format!(in heap; "{tally}")?.as_str(), "3 words, 2 refused");
+    let none = Tally {
+        words: 0,
+        refused: 0,
+    };
+    assert_eq!(rt; ending(&[]), Ok(none));
+    let left_over = ImageError::LeftOver;
+    assert_eq!(rt; ending(&[0x3F, 0xFF, 0xFF, 0x00]), Err(left_over));
     assert_eq!(rt;
-        counted,
-        Ending::Counted {
-            words: 3,
-            refused: 2,
-        }
+        format!(in heap; "{left_over}")?.as_str(),
+        "refused 29 at 0"
     );
-    assert_eq!(rt;
-        format!(in heap; "{counted}")?.as_str(),
-        "3 words, 2 refused"
-    );
-    assert_eq!(rt;
-        ending(&[]),
-        Ending::Counted {
-            words: 0,
-            refused: 0,
-        }
-    );
-    let left = ending(&[0x3F, 0xFF, 0xFF, 0x00]);
-    assert_eq!(rt; left, Ending::LeftOver);
-    assert_eq!(rt; format!(in heap; "{left}")?.as_str(), "refused 29 at 0");
     Ok(())
 }
