@@ -1,6 +1,6 @@
 -- Counted over the words one by one, as many are no instructions as are counted by their addresses.
 -- Assumes nothing.
-use Rattle.std.proofs.Common.{◌≡◌, ℕ, zero, suc, ◌+◌, ◌*◌, ◌/◌, ◌<◌, cond, List, [], length, slice_index, take, drop, Ok, Err, Result, is_ok, is_err, refl, ap, ◌∙◌, arith, get_or-take, get_or-drop, drop-drop}
+use Rattle.std.proofs.Common.{◌≡◌, ℕ, zero, suc, ◌+◌, ◌/◌, cond, List, [], length, take, drop, Ok, Err, Result, is_ok, is_err, refl, ap, ◌∙◌, arith}
 use Rattle.std.proofs.lemmas.List.Sums.{sum_by-cons}
 use Rattle.std.specs.List.{count_by}
 use Rattle.std.specs.Simd.{first_chunks}
@@ -8,6 +8,7 @@ use Rattle.words.specs.Decoding.{decoded}
 use Rattle.words.specs.declared.errors.DecodeError.{DecodeError}
 use Rattle.words.specs.declared.instructions.Instruction.{Instruction}
 use Rattle.listing.specs.Images.{word_at, refusals, refused_below}
+use Rattle.listing.proofs.Words.{left, left_next, word}
 
 one : (r : Result Instruction DecodeError) → ◌≡◌ {A = ℕ} (cond (is_err r) 1 0) (cond (is_ok r) 0 1)
 one (Ok i) = refl
@@ -17,30 +18,15 @@ module _ (image : List ℕ) where
   abbrev count : List (List ℕ) → ℕ
   count words = count_by (λ bytes. is_err (decoded (word_at bytes 0))) words
 
-  -- what is left from the k-th word on
-  abbrev left : ℕ → List ℕ
-  left k = drop (3 * k) image
-
-  byte : (k i : ℕ) → i < 3 → slice_index (take 3 (left k)) i ≡ slice_index image (3 * k + i)
-  byte k i small = get_or-take 3 (left k) i 0 small ∙ get_or-drop (3 * k) image i 0
-
-  word : (k : ℕ) → word_at (take 3 (left k)) 0 ≡ word_at image k
-  word k =
-      let high : slice_index (take 3 (left k)) (3 * 0) ≡ slice_index image (3 * k) = byte k 0 (omega arith) ∙ ap (slice_index image) (omega arith) in
-      let middle : slice_index (take 3 (left k)) (3 * 0 + 1) ≡ slice_index image (3 * k + 1) = byte k 1 (omega arith) in
-      let low : slice_index (take 3 (left k)) (3 * 0 + 2) ≡ slice_index image (3 * k + 2) = byte k 2 (omega arith) in
-      omega arith
-
-  from : (k n : ℕ) → refused_below image k + count (first_chunks 3 n (left k)) ≡ refused_below image (k + n)
+  from : (k n : ℕ) → refused_below image k + count (first_chunks 3 n (left image k)) ≡ refused_below image (k + n)
   from k zero =
       let none : count [] ≡ 0 = refl in
       let same : refused_below image (k + 0) ≡ refused_below image k = ap (refused_below image) (omega arith) in
       omega arith
   from k (suc n) =
-      let this : cond (is_err (decoded (word_at (take 3 (left k)) 0))) 1 0 ≡ refusals (word_at image k) = one (decoded (word_at (take 3 (left k)) 0)) ∙ ap refusals (word k) in
-      let next : drop 3 (left k) ≡ left (suc k) = drop-drop 3 (3 * k) image ∙ ap (λ i. drop i image) (omega arith) in
-      let rest : count (first_chunks 3 n (drop 3 (left k))) ≡ count (first_chunks 3 n (left (suc k))) = ap (λ bytes. count (first_chunks 3 n bytes)) next in
-      let all = sum_by-cons (λ bytes. cond (is_err (decoded (word_at bytes 0))) 1 0) (take 3 (left k)) (first_chunks 3 n (drop 3 (left k))) in
+      let this : cond (is_err (decoded (word_at (take 3 (left image k)) 0))) 1 0 ≡ refusals (word_at image k) = one (decoded (word_at (take 3 (left image k)) 0)) ∙ ap refusals (word image k) in
+      let rest : count (first_chunks 3 n (drop 3 (left image k))) ≡ count (first_chunks 3 n (left image (suc k))) = ap (λ bytes. count (first_chunks 3 n bytes)) (left_next image k) in
+      let all = sum_by-cons (λ bytes. cond (is_err (decoded (word_at bytes 0))) 1 0) (take 3 (left image k)) (first_chunks 3 n (drop 3 (left image k))) in
       let more : refused_below image (suc k) ≡ refused_below image k + refusals (word_at image k) = refl in
       let later = from (suc k) n in
       let same : refused_below image (suc k + n) ≡ refused_below image (k + suc n) = ap (refused_below image) (omega arith) in

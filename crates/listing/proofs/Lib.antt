@@ -1,2 +1,4 @@
 pub mod Counting
+pub mod Lined
 pub mod Uneven
+pub mod Words

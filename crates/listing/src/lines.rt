@@ -1,6 +1,7 @@
 // The lines of a listing.
-ghost use Rattle.std.specs.Prelude.{Some};
-ghost use Rattle.listing.specs.Lines.{line_text};
+ghost use Rattle.std.specs.Prelude.{Some, OnOk};
+ghost use Rattle.std.specs.Io.KnownBytes.{Appends};
+ghost use Rattle.listing.specs.Lines.{line_text, listing_text};
 
 use crate::images::{ending, word_of};
 use std::io::Write;
@@ -30,7 +31,10 @@ impl fmt::Display for Line {
 }
 
 // Writes a line for each word of the image, and the last line.
-pub fn write_listing<W: Write>(out: &mut W, image: &[u8]) -> io::Result<()> {
+#[tactic(auto, using(crate::proofs::Lined::more, crate::proofs::Words::word_of_chunk))]
+pub fn write_listing<W: Write>(out: &mut W, image: &[u8]) -> io::Result<()>
+    ensures { OnOk result (Appends (W.contents out.old) (W.contents out.new) (listing_text image.now)) }
+{
     let (whole, _) = image.as_chunks::<3>();
     for (address, bytes) in whole.iter().enumerate() {
         let line = Line {
