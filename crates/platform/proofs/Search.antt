@@ -1,7 +1,6 @@
 -- A search that goes up by one finds the lowest number that a test takes.
 -- Assumes nothing.
-use Rattle.std.proofs.Common.{◌≡◌, ℕ, zero, suc, ◌+◌, ◌<◌, ◌≤◌, Bool, true, false, cond, Some, None, Option, sym, refl, ap, ◌∙◌, subst, ⊎_elim, not-suc-le-zero, add-one, arith}
-use borrow.Author.Tests.{clash}
+use Rattle.std.proofs.Common.{◌≡◌, ℕ, zero, suc, ◌+◌, ◌<◌, ◌≤◌, Bool, true, false, cond, Some, None, Option, IfSome, MatchOption, sym, refl, ap, ◌∙◌, subst, ⊎_elim, not-suc-le-zero, add-one, arith}
 use Rattle.std.proofs.lemmas.Bool.{cases_order}
 use Rattle.platform.specs.Lowest.{or_else, lowest}
 
@@ -35,6 +34,11 @@ module _ (test : ℕ → Bool) where
 
   pub some_from : (k n : ℕ) → k < n → ((j : ℕ) → j < k → test j ≡ false) → test k ≡ true → lowest test n ≡ Some k
   some_from k n lt before here = found k n lt (none_from k before) here
+
+  -- what `find` over the numbers below n answers
+  pub found_below : (n : ℕ) (r : Option ℕ) → MatchOption r ((k : ℕ) → 0 ≤ k → k < n → test k ≡ false) (λ i. (0 ≤ i) × (i < n) × (test i ≡ true) × ((k : ℕ) → 0 ≤ k → k < i → test k ≡ false)) → (r ≡ lowest test n) × IfSome r (λ i. i < n)
+  found_below n None none = (sym (none_from n (λ k lt. none k (omega arith) lt)), tt)
+  found_below n (Some i) some = (sym (some_from i n some.1 (λ j lt. some.3 j (omega arith) lt) some.2), some.1)
 
   -- what a search that found nothing passed
   pub none_gives : (n : ℕ) → lowest test n ≡ None → (k : ℕ) → k < n → test k ≡ false

@@ -1,13 +1,12 @@
 -- What the tests of stores promise, and what a store has that passed one.
 -- Assumes nothing.
-use Rattle.std.proofs.Common.{◌≡◌, ℕ, ◌*◌, ◌/◌, ◌%◌, ◌^◌, ◌<◌, ◌≤◌, Bool, true, false, cond, ◌&&◌, eqb, leb, ◌↔◌, List, length, get_or, is_ok, Some, None, Ok, Err, Decides, Option, Result, sym, refl, ap, ◌∙◌, subst, ⊎_elim, arith}
+use Rattle.std.proofs.Common.{◌≡◌, ℕ, ◌/◌, ◌^◌, ◌<◌, ◌≤◌, Bool, true, false, cond, leb, List, length, is_ok, Some, None, Ok, Err, Decides, Option, Result, sym, refl, ap, ◌∙◌, subst, ⊎_elim, arith}
 use borrow.Author.Tests.{clash}
-use Rattle.std.proofs.lemmas.Bool.{and_parts, and_from, leb-true, leb-false, eqb-true, eq-eqb, le-leb, lt-leb, cases_lt, cond-false, le-ltb}
-use Rattle.std.proofs.lemmas.List.{get_or_past}
-use Rattle.platform.specs.Lowest.{lowest}
-use Rattle.platform.specs.Stores.{count_fits, first_wide, wide_refusal, tested_if, tested, listed, formed, bytes_tested, store_refusal, Narrow, Tests, InRange, InRangeOf3}
+use Rattle.std.proofs.lemmas.Bool.{and_parts, leb-true, leb-false, le-leb, lt-leb, cases_lt}
+use Rattle.platform.specs.Stores.{count_fits, first_wide, wide_refusal, tested_if, listed, words_tested, formed, Reading, tested_by, bytes_tested, store_refusal, Narrow, Tests, InRange, InRangeOf3, IsReading}
 use Rattle.platform.specs.declared.errors.StoreError.{StoreError}
 use Rattle.platform.specs.declared.errors.StoreError.TheVariants.{Size, WideWord}
+use Rattle.platform.specs.Laws.{in_range, reads_words, reads_bytes}
 use Rattle.platform.proofs.Search.{none_gives, none_from, some_gives, some_from}
 
 abbrev Answer : Type 0
@@ -64,58 +63,41 @@ module _ (n : ℕ) (word : ℕ → ℕ) where
     pub tests : (b : Bool) → Decides b Fits → Tests Fits n word (tested_if b n word)
     tests b d = tests_at b d (first_wide word n) refl
 
-pub in_range : (n : ℕ) → Decides (count_fits n) (InRange n)
-in_range n = (λ e. let p = and_parts (leb 1 n) (leb n 8192) e in (leb-true 1 n p.0, leb-true n 8192 p.1), λ h. and_from (leb 1 n) (leb n 8192) (le-leb 1 n h.0) (le-leb n 8192 h.1))
+-- whatever the reading, the test promises the same
+pub tested_as : {how : Reading} {Fits : List ℕ → Type 0} → IsReading how Fits → (xs : List ℕ) (r : Answer) → r ≡ tested_by how xs → Tests (Fits xs) (how.count xs) (how.number xs) r
+tested_as {how} {Fits} is xs r e = subst (Tests (Fits xs) (how.count xs) (how.number xs)) (sym e) (tests (how.count xs) (how.number xs) _ (is.fits xs))
 
-pub in_range_of_3 : (bytes : List ℕ) → Decides (eqb (length bytes % 3) 0 && count_fits (length bytes / 3)) (InRangeOf3 bytes)
-in_range_of_3 bytes =
-    let n = length bytes / 3 in (
-      λ e.
-          let p = and_parts (eqb (length bytes % 3) 0) (count_fits n) e in
-          let whole = eqb-true (length bytes % 3) 0 p.0 in
-          (n, omega arith, (in_range n).0 p.1),
-      λ h.
-          let whole : length bytes ≡ 3 * h.0 = h.1 in
-          let same : h.0 ≡ n = omega arith in
-          and_from (eqb (length bytes % 3) 0) (count_fits n) (eq-eqb (length bytes % 3) 0 (omega arith)) ((in_range n).1 (subst InRange same h.2)),
-    )
-
-pub tested_words : (words : List ℕ) (r : Answer) → r ≡ tested (length words) (listed words) → Tests (InRange (length words)) (length words) (listed words) r
-tested_words words r e = subst (Tests (InRange (length words)) (length words) (listed words)) (sym e) (tests (length words) (listed words) (count_fits (length words)) (in_range (length words)))
-
-pub tested_bytes : (bytes : List ℕ) (r : Answer) → r ≡ bytes_tested bytes → Tests (InRangeOf3 bytes) (length bytes / 3) (formed bytes) r
-tested_bytes bytes r e = subst (Tests (InRangeOf3 bytes) (length bytes / 3) (formed bytes)) (sym e) (tests (length bytes / 3) (formed bytes) _ (in_range_of_3 bytes))
-
-passed : {Fits : Type 0} {n : ℕ} {word : ℕ → ℕ} {r : Answer} → Tests Fits n word r → is_ok r ≡ true → Fits × Narrow word n
-passed {r} t e = by r t e
+passed : (n : ℕ) (word : ℕ → ℕ) (fits : Bool) → is_ok (tested_if fits n word) ≡ true → (fits ≡ true) × Narrow word n
+passed n word false e = absurd (clash e)
+passed n word true e = by (first_wide word n) refl e
   where
-    by : {Fits : Type 0} {n : ℕ} {word : ℕ → ℕ} (r : Answer) → Tests Fits n word r → is_ok r ≡ true → Fits × Narrow word n
-    by (Ok u) t e = t.passes.0 refl
-    by (Err x) t e = absurd (clash e)
+    by : (o : Option ℕ) → first_wide word n ≡ o → is_ok (wide_refusal o) ≡ true → (true ≡ true) × Narrow word n
+    by None at e = (refl, none_narrow n word at)
+    by (Some a) at e = absurd (clash e)
 
 -- what passed its test has a count in range, is narrow everywhere, and 0 outside
-pub record Stored (n : ℕ) (word : ℕ → ℕ) : Type 0 where
-  pub some : 1 ≤ n
-  pub few : n ≤ 8192
-  pub narrow : (a : ℕ) → word a < 2 ^ 22
-  pub outside : (a : ℕ) → n ≤ a → word a ≡ 0
+pub record Stored (how : Reading) (xs : List ℕ) : Type 0 where
+  pub whole : how.whole xs ≡ true
+  pub some : 1 ≤ how.count xs
+  pub few : how.count xs ≤ 8192
+  pub narrow : (a : ℕ) → how.number xs a < 2 ^ 22
+  pub outside : (a : ℕ) → how.count xs ≤ a → how.number xs a ≡ 0
 
-stored : {n : ℕ} {word : ℕ → ℕ} → InRange n → Narrow word n → ((a : ℕ) → n ≤ a → word a ≡ 0) → Stored n word
-stored {n} {word} fits narrow out = record {
-  some = fits.0;
-  few = fits.1;
-  narrow = λ a. ⊎_elim (narrow a) (λ ge. let z = out a ge in omega arith) (cases_lt a n);
-  outside = out;
-}
+pub stored : {how : Reading} {Fits : List ℕ → Type 0} → IsReading how Fits → (xs : List ℕ) → is_ok (tested_by how xs) ≡ true → Stored how xs
+stored {how} is xs e =
+    let p = passed (how.count xs) (how.number xs) _ e in
+    let b = and_parts (how.whole xs) (count_fits (how.count xs)) p.0 in
+    let fits = (in_range (how.count xs)).0 b.1 in
+    record {
+      whole = b.0;
+      some = fits.0;
+      few = fits.1;
+      narrow = λ a. ⊎_elim (p.1 a) (λ ge. let z = is.outside xs a ge in omega arith) (cases_lt a (how.count xs));
+      outside = is.outside xs;
+    }
 
-pub stored_words : (words : List ℕ) → is_ok (tested (length words) (listed words)) ≡ true → Stored (length words) (listed words)
-stored_words words e =
-    let p = passed (tested_words words _ refl) e in
-    stored p.0 p.1 (λ a ge. get_or_past words a 0 ge)
+pub tested_words : (words : List ℕ) (r : Answer) → r ≡ words_tested words → Tests (InRange (length words)) (length words) (listed words) r
+tested_words = tested_as reads_words
 
-pub stored_bytes : (bytes : List ℕ) → is_ok (bytes_tested bytes) ≡ true → Stored (length bytes / 3) (formed bytes)
-stored_bytes bytes e =
-    let p = passed (tested_bytes bytes _ refl) e in
-    let whole : length bytes ≡ 3 * p.0.0 = p.0.1 in
-    let same : p.0.0 ≡ length bytes / 3 = omega arith in
-    stored (subst InRange same p.0.2) p.1 (λ a ge. cond-false _ _ _ (le-ltb a (length bytes / 3) ge))
+pub tested_bytes : (bytes : List ℕ) (r : Answer) → r ≡ bytes_tested bytes → Tests (InRangeOf3 bytes) (length bytes / 3) (formed bytes) r
+tested_bytes = tested_as reads_bytes

@@ -1,6 +1,6 @@
 -- The limits of a core description.
 -- Assumes nothing.
-use Rattle.std.specs.Prelude.{◌≡◌, ℕ, ◌<◌, ◌≤◌, Bool, not, ◌&&◌, ◌==◌, ◌≢◌, nat_le, slice_index}
+use Rattle.std.specs.Prelude.{ℕ, ◌<◌, ◌≤◌, Bool, not, ◌&&◌, ◌==◌, ◌≢◌, nat_le, slice_index}
 use Rattle.platform.specs.declared.description.CoreDescription.{CoreDescription}
 
 -- where the routine of a level is entered

@@ -1,4 +1,5 @@
 pub mod Description
+pub mod Laws
 pub mod Lowest
 pub mod Refusals
 pub mod Stores

@@ -1,6 +1,6 @@
 -- What a store means, and what it can be made from.
 -- Assumes nothing.
-use Rattle.std.specs.Prelude.{◌≡◌, ℕ, ◌+◌, ◌-◌, ◌*◌, ◌/◌, ◌%◌, ◌^◌, ◌<◌, ◌≤◌, Bool, cond, not, ◌&&◌, leb, ◌↔◌, List, [], ◌∷◌, length, drop, is_some, is_ok, Some, None, Ok, Err, Option, Result, ◌==◌, nat_le, nat_lt, slice_index}
+use Rattle.std.specs.Prelude.{◌≡◌, ℕ, ◌+◌, ◌-◌, ◌*◌, ◌/◌, ◌%◌, ◌^◌, ◌<◌, ◌≤◌, Bool, cond, ◌&&◌, leb, ◌↔◌, List, [], ◌∷◌, length, drop, is_ok, Some, None, Ok, Err, Option, Result, Decides, true, ◌==◌, nat_le, nat_lt, slice_index}
 use Rattle.platform.specs.Lowest.{lowest}
 use Rattle.platform.specs.Refusals.{store_log}
 use Rattle.platform.specs.declared.errors.StoreError.{StoreError}
@@ -40,16 +40,40 @@ big_endian bytes = slice_index bytes 0 * 2 ^ 16 + slice_index bytes 1 * 2 ^ 8 + 
 abbrev pub formed : List ℕ → ℕ → ℕ
 formed bytes a = cond (nat_lt a (length bytes / 3)) (big_endian (drop (3 * a) bytes)) 0
 
-abbrev pub bytes_tested : List ℕ → Result (Unit {0}) StoreError
-bytes_tested bytes = tested_if (length bytes % 3 == 0 && count_fits (length bytes / 3)) (length bytes / 3) (formed bytes)
+-- how a list of numbers is read as words
+pub record Reading : Type 0 where
+  -- whether nothing is left over
+  pub whole : List ℕ → Bool
+  pub count : List ℕ → ℕ
+  pub number : List ℕ → ℕ → ℕ
+  -- what is read as the one word 0
+  pub blank : List ℕ
+
+-- how many words there are, where nothing is left over
+abbrev pub count_read : Reading → List ℕ → Option ℕ
+count_read how xs = cond (how.whole xs) (Some (how.count xs)) None
+
+abbrev pub tested_by : Reading → List ℕ → Result (Unit {0}) StoreError
+tested_by how xs = tested_if (how.whole xs && count_fits (how.count xs)) (how.count xs) (how.number xs)
 
 -- Making refuses nothing: what the test turns down makes the one word 0.
+abbrev pub used_by : Reading → List ℕ → List ℕ
+used_by how xs = cond (is_ok (tested_by how xs)) xs how.blank
+
+abbrev pub one_to_a_word : Reading
+one_to_a_word = record { whole = λ words. true; count = length; number = listed; blank = 0 ∷ [] }
+
+abbrev pub three_to_a_word : Reading
+three_to_a_word = record { whole = λ bytes. length bytes % 3 == 0; count = λ bytes. length bytes / 3; number = formed; blank = 0 ∷ 0 ∷ 0 ∷ [] }
+
+abbrev pub bytes_tested : List ℕ → Result (Unit {0}) StoreError
+bytes_tested bytes = tested_by three_to_a_word bytes
 
 abbrev pub used_words : List ℕ → List ℕ
-used_words words = cond (is_ok (words_tested words)) words (0 ∷ [])
+used_words words = used_by one_to_a_word words
 
 abbrev pub used_bytes : List ℕ → List ℕ
-used_bytes bytes = cond (is_ok (bytes_tested bytes)) bytes (0 ∷ 0 ∷ 0 ∷ [])
+used_bytes bytes = used_by three_to_a_word bytes
 
 -- two stores of m and n words, joined end to end
 abbrev pub join_tested : ℕ → ℕ → Result (Unit {0}) StoreError
@@ -84,3 +108,11 @@ InRange n = (1 ≤ n) × (n ≤ 8192)
 -- the bytes are a whole number of words
 abbrev pub InRangeOf3 : List ℕ → Type 0
 InRangeOf3 bytes = (n : ℕ) × (length bytes ≡ 3 * n) × InRange n
+
+-- Fits says which lists are as many words as a store has
+pub record IsReading (how : Reading) (Fits : List ℕ → Type 0) : Type 0 where
+  pub fits : (xs : List ℕ) → Decides (how.whole xs && count_fits (how.count xs)) (Fits xs)
+  pub outside : (xs : List ℕ) (a : ℕ) → how.count xs ≤ a → how.number xs a ≡ 0
+  pub blank_passes : is_ok (tested_by how how.blank) ≡ true
+  pub blank_count : how.count how.blank ≡ 1
+  pub blank_word : how.number how.blank 0 ≡ 0

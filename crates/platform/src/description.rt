@@ -17,8 +17,8 @@ impl CoreDescription {
         ensures decides { Decides result (InLimits self) }
     {
         let [level0, level1, level2] = self.vectors;
-        let deep = 1 <= self.depth && self.depth <= 16;
-        let set = level0 != 0 && level1 != 0 && level2 != 0;
+        let deep = (1..=16).contains(&self.depth);
+        let set = !self.vectors.contains(&0);
         let apart = level0 != level1 && level0 != level2 && level1 != level2;
         deep && set && apart
     }

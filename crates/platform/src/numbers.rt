@@ -1,28 +1,53 @@
 // Numbers that a store may be made from, before it is known that they are words.
-ghost use Rattle.std.specs.Prelude.{◌≡◌, ℕ, length};
-ghost use Rattle.platform.specs.Stores.{count_fits, listed, big_endian, formed, tested};
+ghost use Rattle.std.specs.Prelude.{◌≡◌, ℕ, List, length};
+ghost use Rattle.platform.specs.Stores.{count_fits, listed, big_endian, formed, Reading, IsReading, count_read, one_to_a_word, three_to_a_word, InRange, InRangeOf3};
+ghost use Rattle.platform.specs.Laws.{reads_words, reads_bytes};
 
-use crate::errors::StoreError;
+// A list of numbers, and how it is read as words.
+pub trait Numbers: Copy {
+    ghost reading: { Reading };
 
-pub(crate) trait Numbers {
-    ghost number: { Self → ℕ → ℕ };
+    // which lists are as many words as a store has
+    ghost Fits: { List ℕ → Type 0 };
+
+    ghost given: { Self → List ℕ };
+
+    // How many words there are; none where a part of a word is left over.
+    fn count(&self) -> Option<usize>
+        ensures { result ≡ count_read reading (given self.now) };
 
     // The number at an address, and 0 where there is none.
     fn at(&self, address: usize) -> u32
-        ensures { result ≡ number self.now address };
+        ensures { result ≡ reading.number (given self.now) address };
+
+    // The one word 0.
+    fn blank() -> Self
+        ensures { given result ≡ reading.blank };
+
+    ghost is_reading: { IsReading reading Fits };
 }
 
 // One to a word.
 impl Numbers for &[u32] {
-    ghost number = { λ words. listed words.now };
+    ghost reading = { one_to_a_word };
+
+    ghost Fits = { λ words. InRange (length words) };
+
+    ghost given = { λ words. words.now };
+
+    fn count(&self) -> Option<usize> {
+        Some(self.len())
+    }
 
     fn at(&self, address: usize) -> u32 {
-        if address < self.len() {
-            self[address]
-        } else {
-            0
-        }
+        self.get(address).copied().unwrap_or(0)
     }
+
+    fn blank() -> Self {
+        &[0]
+    }
+
+    ghost is_reading = { reads_words };
 }
 
 // The word that three bytes make, highest first.
@@ -31,14 +56,26 @@ fn word_of(bytes: &[u8]) -> u32
     ensures { result ≡ big_endian bytes.now }
 {
     match bytes {
-        [high, middle, low] => *high as u32 * 0x1_0000 + *middle as u32 * 0x100 + *low as u32,
-        _ => 0,
+        [high, middle, low] => u32::from_be_bytes([0, *high, *middle, *low]),
+        _ => unreachable!(),
     }
 }
 
 // Three bytes to a word.
 impl Numbers for &[u8] {
-    ghost number = { λ bytes. formed bytes.now };
+    ghost reading = { three_to_a_word };
+
+    ghost Fits = { InRangeOf3 };
+
+    ghost given = { λ bytes. bytes.now };
+
+    fn count(&self) -> Option<usize> {
+        if self.len() % 3 == 0 {
+            Some(self.len() / 3)
+        } else {
+            None
+        }
+    }
 
     fn at(&self, address: usize) -> u32 {
         if address >= self.len() / 3 {
@@ -47,25 +84,16 @@ impl Numbers for &[u8] {
         let first = 3 * address;
         word_of(&self[first..first + 3])
     }
+
+    fn blank() -> Self {
+        &[0, 0, 0]
+    }
+
+    ghost is_reading = { reads_bytes };
 }
 
 pub(crate) fn count_fits(count: usize) -> bool
     ensures { result ≡ count_fits count }
 {
-    1 <= count && count <= 8192
-}
-
-// Whether so many numbers can be a store.
-pub(crate) fn test_numbers<N: Numbers>(count: usize, numbers: &N) -> Result<(), StoreError>
-    ensures { result ≡ tested count (N.Numbers.number numbers.now) }
-{
-    if !count_fits(count) {
-        return Err(StoreError::Size);
-    }
-    for address in 0..count {
-        if numbers.at(address) >= 0x40_0000 {
-            return Err(StoreError::WideWord(address as u16));
-        }
-    }
-    Ok(())
+    (1..=8192).contains(&count)
 }

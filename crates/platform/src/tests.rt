@@ -1,10 +1,9 @@
 // The limits of a description, and stores at their edges.
-use crate::byte_store::*;
 use crate::description::*;
 use crate::errors::*;
 use crate::joined_store::*;
+use crate::number_store::*;
 use crate::store::*;
-use crate::word_store::*;
 use std::process::Abort;
 use std::test::Fail;
 
