@@ -50,17 +50,6 @@ impl Numbers for &[u32] {
     ghost is_reading = { reads_words };
 }
 
-// The word that three bytes make, highest first.
-fn word_of(bytes: &[u8]) -> u32
-    requires { length bytes.now ≡ 3 }
-    ensures { result ≡ big_endian bytes.now }
-{
-    match bytes {
-        [high, middle, low] => u32::from_be_bytes([0, *high, *middle, *low]),
-        _ => unreachable!(),
-    }
-}
-
 // Three bytes to a word.
 impl Numbers for &[u8] {
     ghost reading = { three_to_a_word };
@@ -70,19 +59,16 @@ impl Numbers for &[u8] {
     ghost given = { λ bytes. bytes.now };
 
     fn count(&self) -> Option<usize> {
-        if self.len() % 3 == 0 {
-            Some(self.len() / 3)
-        } else {
-            None
-        }
+        let (words, rest) = self.as_chunks::<3>();
+        rest.is_empty().then_some(words.len())
     }
 
     fn at(&self, address: usize) -> u32 {
-        if address >= self.len() / 3 {
-            return 0;
+        let (words, _) = self.as_chunks::<3>();
+        match words.get(address) {
+            Some([high, middle, low]) => u32::from_be_bytes([0, *high, *middle, *low]),
+            None => 0,
         }
-        let first = 3 * address;
-        word_of(&self[first..first + 3])
     }
 
     fn blank() -> Self {
