@@ -1,5 +1,5 @@
 pub mod Description
-pub mod Laws
 pub mod Lowest
+pub mod Readings
 pub mod Refusals
 pub mod Stores

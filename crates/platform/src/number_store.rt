@@ -13,11 +13,13 @@ pub type WordStore<'a> = NumberStore<&'a [u32]>;
 // Three bytes to a word, highest first.
 pub type ByteStore<'a> = NumberStore<&'a [u8]>;
 
+// Numbers that are known to be words.
 pub struct NumberStore<N: Numbers> {
     numbers: N,
     ghost good: { is_ok (tested_by N.reading (N.given numbers)) ≡ true },
 }
 
+// By hand, since no derive copies the ghost field of a generic struct.
 impl<N: Numbers> Clone for NumberStore<N> {
     ghost is_clone = { λ s t. t ≡ s };
 

@@ -1,7 +1,7 @@
 // Numbers that a store may be made from, before it is known that they are words.
 ghost use Rattle.std.specs.Prelude.{◌≡◌, ℕ, List, length};
 ghost use Rattle.platform.specs.Stores.{count_fits, listed, big_endian, formed, Reading, IsReading, count_read, one_to_a_word, three_to_a_word, InRange, InRangeOf3};
-ghost use Rattle.platform.specs.Laws.{reads_words, reads_bytes};
+ghost use Rattle.platform.specs.Readings.{reads_words, reads_bytes};
 
 // A list of numbers, and how it is read as words.
 pub trait Numbers: Copy {
@@ -10,6 +10,7 @@ pub trait Numbers: Copy {
     // which lists are as many words as a store has
     ghost Fits: { List ℕ → Type 0 };
 
+    // the numbers as a list
     ghost given: { Self → List ℕ };
 
     // How many words there are; none where a part of a word is left over.

@@ -1,4 +1,4 @@
-use Rattle.std.proofs.Common.{◌≡◌, get_or, ap, ◌∙◌, rules, arith}
+use Rattle.std.proofs.Common.{◌≡◌, get_or, ap, ◌∙◌, rules}
 use Rattle.platform.specs.Stores.{big_endian}
 use Rattle.platform.proofs.Chunks.{big_endian-chunk}
 use Rattle.platform.proofs.numbers.RefSliceU8Numbers.at.Goals as goal
