@@ -1,6 +1,6 @@
 -- What the loop over the lines finds, by one rule.
 -- Assumes nothing.
-use Rattle.std.proofs.Common.{◌≡◌, ℕ, ◌+◌, ◌<◌, Bool, not, [], ◌∷◌, length, is_ok, None, Ok, Err, Result, unwrap_or, sym, ap, ◌∙◌}
+use Rattle.std.proofs.Common.{◌≡◌, ℕ, ◌+◌, ◌<◌, Bool, not, [], ◌∷◌, length, is_ok, None, Ok, Err, Result, MatchResult, unwrap_or, sym, ap, ◌∙◌, arith}
 use Rattle.std.specs.Result.{result_err}
 use Rattle.platform.specs.Lowest.{lowest}
 use Rattle.platform.proofs.Search.{none_more, found}
@@ -20,14 +20,30 @@ module _ (rule : LineRule) (P : Program) where
   abbrev pub breaks : ℕ → Bool
   breaks a = not (sound (Line rule) P a)
 
-  pub passes_more : (a : ℕ) (u : Unit {0}) → lowest breaks a ≡ None → answer a ≡ Ok u → lowest breaks (a + 1) ≡ None
-  passes_more a u before ok = none_more breaks a before (ap (λ r. not (is_ok r)) ok)
+  abbrev Checked : Type 0
+  Checked = Result (Unit {0}) Fault
 
-  pub breaks_at : (a : ℕ) (b : Breach) → a < length P.lines → lowest breaks a ≡ None → answer a ≡ Err b → ◌≡◌ {A = Result (Unit {0}) Fault} (Err (record { breach = b; place = a })) (checked (Line rule ∷ []) P (Ok tt))
-  breaks_at a b lt before err =
-      let at = found breaks a (length P.lines) lt before (ap (λ r. not (is_ok r)) err) in
-      let same = ap (λ r. unwrap_or (result_err r) (Broken (Line rule))) err in
-      ap (λ x. Err (record { breach = x; place = a })) (sym same) ∙ sym (ap (λ o. unless_at {X = Unit {0}} o (fault (Line rule) P) (Ok tt)) at)
+  -- m is the answer at a, with the place
+  abbrev pub Placed : ℕ → Checked → Result (Unit {0}) Breach → Type 0
+  Placed a m r = MatchResult r (λ u. m ≡ Ok u) (λ b. m ≡ Err (record { breach = b; place = a }))
 
-  pub passes : lowest breaks (length P.lines) ≡ None → ◌≡◌ {A = Result (Unit {0}) Fault} (Ok tt) (checked (Line rule ∷ []) P (Ok tt))
+  module _ (a : ℕ) (r : Result (Unit {0}) Breach) (m : Checked) (before : lowest breaks a ≡ None) where
+    pub passes_more : (u : Unit {0}) → r ≡ answer a → Placed a m r → m ≡ Ok u → lowest breaks (a + 1) ≡ None
+    passes_more u = by r
+      where
+        by : (r : Result (Unit {0}) Breach) → r ≡ answer a → Placed a m r → m ≡ Ok u → lowest breaks (a + 1) ≡ None
+        by (Ok v) is h ok = none_more breaks a before (ap (λ x. not (is_ok x)) (sym is))
+        by (Err b) is h ok = grind arith
+
+    pub breaks_at : (f : Fault) → a < length P.lines → r ≡ answer a → Placed a m r → m ≡ Err f → ◌≡◌ {A = Checked} (Err f) (checked (Line rule ∷ []) P (Ok tt))
+    breaks_at f lt = by r
+      where
+        by : (r : Result (Unit {0}) Breach) → r ≡ answer a → Placed a m r → m ≡ Err f → ◌≡◌ {A = Checked} (Err f) (checked (Line rule ∷ []) P (Ok tt))
+        by (Ok v) is h err = grind arith
+        by (Err b) is h err =
+            let at = found breaks a (length P.lines) lt before (ap (λ x. not (is_ok x)) (sym is)) in
+            let same = ap (λ x. unwrap_or (result_err x) (Broken (Line rule))) (sym is) in
+            sym err ∙ h ∙ ap (λ x. Err (record { breach = x; place = a })) (sym same) ∙ sym (ap (λ o. unless_at {X = Unit {0}} o (fault (Line rule) P) (Ok tt)) at)
+
+  pub passes : lowest breaks (length P.lines) ≡ None → ◌≡◌ {A = Checked} (Ok tt) (checked (Line rule ∷ []) P (Ok tt))
   passes none = sym (ap (λ o. unless_at {X = Unit {0}} o (fault (Line rule) P) (Ok tt)) none)

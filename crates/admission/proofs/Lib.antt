@@ -4,6 +4,7 @@ pub mod Deciding
 pub mod EachLine
 pub mod Judging
 pub mod LineRules
+pub mod Searching
 pub mod Shapes
 pub mod Verdicts
 pub mod Walk

@@ -4,65 +4,43 @@ ghost use Rattle.admission.specs.Roles.{in_role, found, stray, strays, roles_of,
 ghost use Rattle.admission.specs.Views.{table_in};
 
 use crate::chain::Chain;
-use crate::kinds::{Kind, is};
+use crate::kinds::Kind;
 use crate::roles::Roles;
-use crate::search::{Question, lowest_index};
-
-// Whether a chained record has that kind and that entry.
-#[derive(Clone, Copy)]
-struct InRole<'c, 't> {
-    chain: &'c Chain<'t>,
-    kind: Kind,
-    entry: u16,
-}
-
-impl Question for InRole<'_, '_> {
-    ghost takes = { λ q k. in_role (table_in q.chain.now) q.kind q.entry k };
-
-    fn ask(&self, index: u16) -> bool {
-        self.chain.reaches(index)
-            && is(self.chain.table.kind(index), self.kind)
-            && self.chain.table.entry(index) == self.entry
-    }
-}
-
-// Whether a chained record is another background or interrupt routine than these.
-#[derive(Clone, Copy)]
-struct Stray<'c, 't> {
-    chain: &'c Chain<'t>,
-    roles: Roles,
-}
-
-impl Question for Stray<'_, '_> {
-    ghost takes = { λ q k. stray (table_in q.chain.now) q.roles k };
-
-    fn ask(&self, index: u16) -> bool {
-        let [level0, level1, level2] = self.roles.levels;
-        let kind = self.chain.table.kind(index);
-        self.chain.reaches(index)
-            && ((is(kind, Kind::Background) && index != self.roles.background)
-                || (is(kind, Kind::Interrupt)
-                    && !(index == level0 || index == level1 || index == level2)))
-    }
-}
 
 impl Chain<'_> {
+    // Whether a chained record has that kind and that entry.
+    fn is_in_role(&self, kind: Kind, entry: u16, index: u16) -> bool
+        ensures { result ≡ in_role (table_in self.now) kind entry index }
+    {
+        self.reaches(index)
+            && self.table.kind(index) == Some(kind)
+            && self.table.entry(index) == entry
+    }
+
+    // Whether a chained record is another background or interrupt routine than these.
+    fn is_stray(&self, roles: Roles, index: u16) -> bool
+        ensures { result ≡ stray (table_in self.now) roles index }
+    {
+        let [level0, level1, level2] = roles.levels;
+        self.reaches(index)
+            && match self.table.kind(index) {
+                Some(Kind::Background) => index != roles.background,
+                Some(Kind::Interrupt) => index != level0 && index != level1 && index != level2,
+                _ => false,
+            }
+    }
+
     fn find(&self, kind: Kind, entry: u16) -> Option<u16>
         ensures { result ≡ found (table_in self.now) kind entry }
     {
-        let role = InRole {
-            chain: self,
-            kind,
-            entry,
-        };
-        lowest_index(&role, self.table.records() as u16 + 1)
+        self.indices()
+            .find(|&index| self.is_in_role(kind, entry, index))
     }
 
     fn has_stray(&self, roles: Roles) -> bool
         ensures { result ≡ strays (table_in self.now) roles }
     {
-        let stray = Stray { chain: self, roles };
-        lowest_index(&stray, self.table.records() as u16 + 1).is_some()
+        self.indices().any(|index| self.is_stray(roles, index))
     }
 
     pub(crate) fn roles(&self, vectors: [u16; 3]) -> Option<Roles>
@@ -91,6 +69,6 @@ impl Chain<'_> {
         let [level0, level1, level2] = roles.levels;
         let others = self.table.need(level1).max(self.table.need(level2));
         let largest = self.table.need(level0).max(others);
-        self.table.need(roles.background) as u32 + 1 + largest as u32
+        u32::from(self.table.need(roles.background)) + 1 + u32::from(largest)
     }
 }

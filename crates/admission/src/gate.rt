@@ -1,15 +1,15 @@
 // The gate in front of a core: all rules in their order.
-ghost use Rattle.std.specs.Prelude.{◌≡◌, ◌^◌, ◌<◌, length, Ok};
+ghost use Rattle.std.specs.Prelude.{◌≡◌, Ok};
 ghost use Rattle.admission.specs.Admission.{roles, depth_of, checked, admission};
 ghost use Rattle.admission.specs.Laws.{Judges};
 ghost use Rattle.admission.specs.Program.{program};
 ghost use Rattle.admission.specs.Refusals.{later_rules};
 ghost use Rattle.admission.specs.Tests.{sized};
-ghost use Rattle.admission.specs.Views.{table_in, lines_in, program_in};
+ghost use Rattle.admission.specs.Views.{table_in, program_in};
 ghost use Rattle.admission.specs.declared.faults.Breach.TheVariants.{Broken};
 
 use crate::candidate::Candidate;
-use crate::chain::{Chain, walk};
+use crate::chain::Chain;
 use crate::faults::{Breach, Fault};
 use crate::rules::{RecordRule, Rule};
 use crate::table::Table;
@@ -29,24 +29,25 @@ fn fault_of(rule: Rule) -> Fault
 fn has_sizes(count: u16, table: &[u16], lines: &[u16]) -> bool
     ensures { result ≡ sized count table.now lines.now }
 {
-    let records = table.len() / 4;
-    table.len() % 4 == 1 && 1 <= records && records <= 255 && lines.len() == count as usize
+    table.len() % 4 == 1
+        && (1..=255).contains(&(table.len() / 4))
+        && lines.len() == usize::from(count)
 }
 
 impl Candidate<'_, '_> {
     // The rules that come after the chain.
     fn judge<S: Store>(&self, store: &S) -> Result<u16, Fault>
-        requires { length (lines_in self.now) < 2 ^ 16 }
         ensures { result ≡ checked later_rules (program_in self.now (S.Store.word store.now)) (Ok (depth_of (table_in self.now.chain) (roles (program_in self.now (S.Store.word store.now))))) }
     {
         self.check_records(RecordRule::Kinds)?;
-        let Some(roles) = self.chain.roles(self.description.vectors) else {
-            return Err(fault_of(Rule::Entries));
-        };
+        let roles = self
+            .chain
+            .roles(self.description.vectors)
+            .ok_or(fault_of(Rule::Entries))?;
         self.check_records(RecordRule::EntryLines)?;
         self.check_all_lines(store)?;
         let deepest = self.chain.deepest(roles);
-        if deepest > self.description.depth as u32 {
+        if deepest > u32::from(self.description.depth) {
             return Err(fault_of(Rule::Depth));
         }
         Ok(deepest as u16)
@@ -66,18 +67,14 @@ pub fn admit<S: Store>(
     if !description.is_in_limits() {
         return Err(fault_of(Rule::Description));
     }
-    let count = store.word_count();
-    if !has_sizes(count, table, lines) {
+    if !has_sizes(store.word_count(), table, lines) {
         return Err(fault_of(Rule::Sizes));
     }
-    let table = Table { numbers: table };
-    let marks = walk(&table)?;
-    let chain = Chain { table, marks };
+    let chain = Chain::walk(Table { numbers: table })?;
     let candidate = Candidate {
         description,
         chain,
         lines,
-        count,
     };
     candidate.judge(store)
 }

@@ -3,7 +3,7 @@ ghost use Rattle.std.specs.Prelude.{◌≡◌};
 ghost use Rattle.admission.specs.Instructions.{flow, permitted, goes_on, jump_target, call_target, direct, result_in, destination};
 ghost use Rattle.admission.specs.Tests.{stack_sound, moves, may_call, stat_sound};
 
-use crate::kinds::{Kind, is};
+use crate::kinds::Kind;
 use words::{Condition, Instruction, Operation, Register, Target};
 
 // No CALLS, and no jump or call through ip: where these lead, the word does not say.
@@ -24,8 +24,8 @@ pub(crate) fn stack_is_sound(instruction: Instruction, kind: Option<Kind>, heigh
 {
     match instruction {
         Instruction::Pop => height >= 1,
-        Instruction::Ret => (is(kind, Kind::Quiet) || is(kind, Kind::Open)) && height == 0,
-        Instruction::Reti => is(kind, Kind::Interrupt) && height == 0,
+        Instruction::Ret => matches!(kind, Some(Kind::Quiet | Kind::Open)) && height == 0,
+        Instruction::Reti => matches!(kind, Some(Kind::Interrupt)) && height == 0,
         _ => true,
     }
 }
@@ -75,8 +75,8 @@ pub(crate) fn moves_height(instruction: Instruction, before: u16, after: u16) ->
     ensures { result ≡ moves (flow instruction) before after }
 {
     match instruction {
-        Instruction::Push => after as u32 == before as u32 + 1,
-        Instruction::Pop => after as u32 + 1 == before as u32,
+        Instruction::Push => u32::from(after) == u32::from(before) + 1,
+        Instruction::Pop => u32::from(after) + 1 == u32::from(before),
         _ => after == before,
     }
 }
@@ -85,8 +85,11 @@ pub(crate) fn moves_height(instruction: Instruction, before: u16, after: u16) ->
 pub(crate) fn may_call(caller: Option<Kind>, callee: Option<Kind>) -> bool
     ensures { result ≡ may_call caller callee }
 {
-    is(callee, Kind::Quiet)
-        || (is(callee, Kind::Open) && !(is(caller, Kind::Quiet) || is(caller, Kind::Interrupt)))
+    match callee {
+        Some(Kind::Quiet) => true,
+        Some(Kind::Open) => !matches!(caller, Some(Kind::Quiet | Kind::Interrupt)),
+        _ => false,
+    }
 }
 
 // The register that the result of an operation goes to; comparisons and the test of a bit have none.
@@ -108,22 +111,22 @@ fn destination_register(instruction: Instruction) -> Option<Register>
             operation,
             register,
             ..
-        } => result_register(operation, register),
-        Instruction::AluImmediate {
+        }
+        | Instruction::AluImmediate {
             operation,
             register,
             ..
+        }
+        | Instruction::AluOneSource {
+            operation,
+            result: register,
+            ..
+        }
+        | Instruction::AluTwoSources {
+            operation,
+            result: register,
+            ..
         } => result_register(operation, register),
-        Instruction::AluOneSource {
-            operation,
-            result,
-            ..
-        } => result_register(operation, result),
-        Instruction::AluTwoSources {
-            operation,
-            result,
-            ..
-        } => result_register(operation, result),
         _ => None,
     }
 }
@@ -133,7 +136,7 @@ pub(crate) fn stat_is_sound(instruction: Instruction, kind: Option<Kind>) -> boo
     ensures { result ≡ stat_sound instruction kind }
 {
     match destination_register(instruction) {
-        Some(Register::Stat) => is(kind, Kind::Background) || is(kind, Kind::Open),
+        Some(Register::Stat) => matches!(kind, Some(Kind::Background | Kind::Open)),
         _ => true,
     }
 }

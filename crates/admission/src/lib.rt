@@ -9,9 +9,10 @@ mod gate;
 mod instructions;
 mod kinds;
 mod lines;
+mod placed;
+mod records;
 mod roles;
 pub mod rules;
-mod search;
 mod table;
 
 pub use faults::{Breach, Fault};

@@ -1,5 +1,5 @@
 // The rules of lines, one after the other over all lines.
-ghost use Rattle.std.specs.Prelude.{◌≡◌, ◌^◌, ◌<◌, [], ◌∷◌, length, Ok};
+ghost use Rattle.std.specs.Prelude.{◌≡◌, [], ◌∷◌, length, Ok};
 ghost use Rattle.words.specs.Decoding.{decoded};
 ghost use Rattle.admission.specs.Admission.{checked};
 ghost use Rattle.admission.specs.Instructions.{flow};
@@ -14,9 +14,10 @@ use crate::instructions::{
     call_target, goes_on, is_permitted, jump_target, may_call, moves_height, stack_is_sound,
     stat_is_sound,
 };
+use crate::placed::Placed;
 use crate::rules::{LineRule, Rule};
 use platform::Store;
-use words::{Instruction, decode};
+use words::decode;
 
 fn break_unless(sound: bool, rule: LineRule) -> Result<(), Breach>
     ensures { result ≡ unless sound rule }
@@ -44,39 +45,39 @@ impl Candidate<'_, '_> {
         self.chain.reaches(owner) && self.height(address) <= self.chain.table.need(owner)
     }
 
-    // From one word to another, which has the same owner and the height that is left.
-    fn leads(&self, instruction: Instruction, from: u16, to: u16) -> bool
-        ensures { result ≡ leads self.now.count (lines_in self.now) (flow instruction) from to }
+    // To a word that has the same owner, and the height that is left.
+    fn leads(&self, from: Placed, to: u16) -> bool
+        ensures { result ≡ leads (length (lines_in self.now)) (lines_in self.now) (flow from.instruction) from.address to }
     {
-        to < self.count
-            && self.owner(to) == self.owner(from)
-            && moves_height(instruction, self.height(from), self.height(to))
+        to < self.word_count()
+            && self.owner(to) == self.owner(from.address)
+            && moves_height(from.instruction, self.height(from.address), self.height(to))
     }
 
     // The next word, if it may be run after this one.
-    fn next_is_sound(&self, instruction: Instruction, address: u16) -> bool
-        ensures { result ≡ next_sound self.now.count (lines_in self.now) (flow instruction) address }
+    fn next_is_sound(&self, placed: Placed) -> bool
+        ensures { result ≡ next_sound (length (lines_in self.now)) (lines_in self.now) (flow placed.instruction) placed.address }
     {
-        !goes_on(instruction)
-            || (address < self.count && self.leads(instruction, address, address + 1))
+        !goes_on(placed.instruction)
+            || (placed.address < self.word_count() && self.leads(placed, placed.address + 1))
     }
 
     // The word that a jump goes to.
-    fn target_is_sound(&self, instruction: Instruction, address: u16) -> bool
-        ensures { result ≡ target_sound self.now.count (lines_in self.now) (flow instruction) address }
+    fn target_is_sound(&self, placed: Placed) -> bool
+        ensures { result ≡ target_sound (length (lines_in self.now)) (lines_in self.now) (flow placed.instruction) placed.address }
     {
-        match jump_target(instruction) {
-            Some(target) => self.leads(instruction, address, target),
+        match jump_target(placed.instruction) {
+            Some(target) => self.leads(placed, target),
             None => true,
         }
     }
 
     // What a CALL goes to.
-    fn call_is_sound(&self, instruction: Instruction, address: u16) -> bool
-        ensures { result ≡ call_sound (table_in self.now.chain) (lines_in self.now) (flow instruction) address }
+    fn call_is_sound(&self, placed: Placed) -> bool
+        ensures { result ≡ call_sound (table_in self.now.chain) (lines_in self.now) (flow placed.instruction) placed.address }
     {
-        match call_target(instruction) {
-            Some(target) => self.callee_is_sound(address, target),
+        match call_target(placed.instruction) {
+            Some(target) => self.callee_is_sound(placed.address, target),
             None => true,
         }
     }
@@ -88,25 +89,26 @@ impl Candidate<'_, '_> {
         let table = self.chain.table;
         let caller = self.owner(address);
         let callee = self.owner(target);
-        let words = self.height(address) as u32 + 1 + table.need(callee) as u32;
+        let words = u32::from(self.height(address)) + 1 + u32::from(table.need(callee));
         self.chain.reaches(callee)
             && table.entry(callee) == target
             && may_call(table.kind(caller), table.kind(callee))
-            && words <= table.need(caller) as u32
+            && words <= u32::from(table.need(caller))
     }
 
-    fn instruction_is_sound(&self, rule: LineRule, instruction: Instruction, address: u16) -> bool
-        ensures { result ≡ instruction_sound rule self.now.count (table_in self.now.chain) (lines_in self.now) instruction address }
+    fn instruction_is_sound(&self, rule: LineRule, placed: Placed) -> bool
+        ensures { result ≡ instruction_sound rule (length (lines_in self.now)) (table_in self.now.chain) (lines_in self.now) placed.instruction placed.address }
     {
+        let Placed {
+            instruction,
+            address,
+        } = placed;
         let kind = self.chain.table.kind(self.owner(address));
         match rule {
             LineRule::Owner | LineRule::Word => true,
             LineRule::StackUse => stack_is_sound(instruction, kind, self.height(address)),
-            LineRule::Successors => {
-                self.next_is_sound(instruction, address)
-                    && self.target_is_sound(instruction, address)
-            }
-            LineRule::Callee => self.call_is_sound(instruction, address),
+            LineRule::Successors => self.next_is_sound(placed) && self.target_is_sound(placed),
+            LineRule::Callee => self.call_is_sound(placed),
             LineRule::StatWrite => stat_is_sound(instruction, kind),
         }
     }
@@ -114,7 +116,7 @@ impl Candidate<'_, '_> {
     // What is wrong with the word at an address by one rule, if anything is. Only the rule on words has something to say of a
     // word that is no instruction.
     fn check_line(&self, rule: LineRule, address: u16, word: u32) -> Result<(), Breach>
-        ensures { result ≡ line_checked rule self.now.count (table_in self.now.chain) (lines_in self.now) word address }
+        ensures { result ≡ line_checked rule (length (lines_in self.now)) (table_in self.now.chain) (lines_in self.now) word address }
     {
         if self.line(address) == 0 {
             return Ok(());
@@ -124,7 +126,11 @@ impl Candidate<'_, '_> {
             LineRule::Word => check_word(word),
             _ => match decode(word) {
                 Ok(instruction) => {
-                    break_unless(self.instruction_is_sound(rule, instruction, address), rule)
+                    let placed = Placed {
+                        instruction,
+                        address,
+                    };
+                    break_unless(self.instruction_is_sound(rule, placed), rule)
                 }
                 Err(_) => Ok(()),
             },
@@ -133,23 +139,20 @@ impl Candidate<'_, '_> {
 
     // A rule of lines, at each line.
     fn check_lines<S: Store>(&self, rule: LineRule, store: &S) -> Result<(), Fault>
-        requires { length (lines_in self.now) < 2 ^ 16 }
         ensures { result ≡ checked (Line rule ∷ []) (program_in self.now (S.Store.word store.now)) (Ok tt) }
     {
         for index in 0..self.lines.len() {
             let address = index as u16;
-            if let Err(breach) = self.check_line(rule, address, store.fetch(address)) {
-                return Err(Fault {
+            self.check_line(rule, address, store.fetch(address))
+                .map_err(|breach| Fault {
                     breach,
                     place: address,
-                });
-            }
+                })?;
         }
         Ok(())
     }
 
     pub(crate) fn check_all_lines<S: Store>(&self, store: &S) -> Result<(), Fault>
-        requires { length (lines_in self.now) < 2 ^ 16 }
         ensures { result ≡ checked line_rules (program_in self.now (S.Store.word store.now)) (Ok tt) }
     {
         self.check_lines(LineRule::Owner, store)?;

@@ -1,4 +1,5 @@
-use Rattle.std.proofs.Common.{◌≡◌, Err, sym, ap, ◌∙◌}
+use Rattle.std.proofs.Common.{◌≡◌, length, Err, sym, ap, ◌∙◌}
+use Rattle.std.proofs.lemmas.Bool.{eqb-true, and_parts}
 use Rattle.std.proofs.lemmas.Result.{err_from_is_err_and}
 use Rattle.admission.specs.Admission.{fault}
 use Rattle.admission.specs.Program.{program}
@@ -15,15 +16,15 @@ returns-then-not-is_in_limits g c =
 pub returns-then-not-has_sizes : goal.returns-then-not-has_sizes
 returns-then-not-has_sizes g c =
     let P = program c.args.description (g.S.Store.count c.args.store.now) (g.S.Store.word c.args.store.now) c.args.table.now c.args.lines.now in
-    let count = ap (λ n. sized n P.table P.lines) c.word_count-count.ensures.value in
+    let count = ap (λ n. sized n P.table P.lines) c.word_count.ensures.value in
     missized P (Err c.fault_of-then-not-has_sizes.result) (sym c.if-not-is_in_limits.ensures.value) (sym count ∙ sym c.if-not-has_sizes.ensures) (ap Err c.fault_of-then-not-has_sizes.ensures)
 
-pub returns-in_err-marks : goal.returns-in_err-marks
-returns-in_err-marks g c =
+pub returns-in_err-chain : goal.returns-in_err-chain
+returns-in_err-chain g c =
     let P = program c.args.description (g.S.Store.count c.args.store.now) (g.S.Store.word c.args.store.now) c.args.table.now c.args.lines.now in
-    let count = ap (λ n. sized n P.table P.lines) c.word_count-count.ensures.value in
-    let f = c.in_err-marks.field-0.0 in
-    let walked = c.in_err-marks.ensures in
+    let count = ap (λ n. sized n P.table P.lines) c.word_count.ensures.value in
+    let f = c.in_err-chain.field-0.0 in
+    let walked = c.in_err-chain.ensures in
     let back = err_from_is_err_and c.from_residual.result c.from_residual.ensures.1 in
     let same : f ≡ fault Chain P f.place = ap (λ b. record { breach = b; place = f.place }) walked.0 in
     unchained P c.from_residual.result (sym c.if-not-is_in_limits.ensures.value) (sym count ∙ sym c.if-not-has_sizes.ensures) f.place walked.1 (back.1 ∙ ap Err (back.2 ∙ same))
@@ -35,6 +36,7 @@ returns g c =
     let T = c.args.table.now in
     let L = c.args.lines.now in
     let P = program d (g.S.Store.count c.args.store.now) word T L in
-    let count = ap (λ n. sized n T L) c.word_count-count.ensures.value in
-    let same = ap (λ n. later (program d n word T L)) c.word_count-count.ensures.value in
-    chained_well P c.judge.result (sym c.if-not-is_in_limits.ensures.value) (sym count ∙ sym c.if-not-has_sizes.ensures) c.in_ok-marks.ensures.1 (c.judge.ensures ∙ same)
+    let sizes = sym (ap (λ n. sized n T L) c.word_count.ensures.value) ∙ sym c.if-not-has_sizes.ensures in
+    let count = eqb-true (length L) P.count (and_parts _ _ sizes).1 in
+    let same = ap (λ x. later (program d (length L) word x L)) c.in_ok-chain.ensures.0 ∙ ap (λ n. later (program d n word T L)) count in
+    chained_well P c.judge.result (sym c.if-not-is_in_limits.ensures.value) sizes c.in_ok-chain.ensures.1 (c.judge.ensures ∙ same)
