@@ -1,9 +1,9 @@
 -- The records that are found for the background and the levels are the only ones of their kinds.
 -- Assumes nothing.
 use Rattle.std.proofs.Common.{◌≡◌, ℕ, zero, suc, ◌+◌, ◌<◌, Bool, true, false, cond, ◌⊎◌, List, [], ◌∷◌, is_some, Some, None, Decides, Option, sym, refl, ap, ◌∙◌, subst, inl, inr, ⊎_elim, arith}
-use borrow.Author.Tests.{clash}
-use Rattle.std.proofs.lemmas.Bool.{cases_eq, cases_order}
+use Rattle.std.proofs.lemmas.Bool.{false≢true, false_from_ne_true, cases_eq, cases_order}
 use Rattle.std.proofs.lemmas.Bool.Decides.{Decides-eqb, Decides-and, Decides-or, Decides-not, not_from_Decides}
+use Rattle.std.proofs.lemmas.Option.{none-some, same_Some}
 use Rattle.platform.specs.Description.{vector, InLimits}
 use Rattle.platform.specs.Lowest.{lowest}
 use Rattle.platform.proofs.Search.{none_from, none_gives, some_gives}
@@ -17,10 +17,7 @@ use Rattle.admission.specs.declared.kinds.Kind.{Kind}
 use Rattle.admission.specs.declared.kinds.Kind.TheVariants.{Background, Interrupt}
 use Rattle.admission.specs.declared.roles.Roles.{Roles}
 use Rattle.admission.proofs.Chains.{decides_chained, low_on}
-use Rattle.admission.proofs.Deciding.{decides_is, both_some}
-
-none_some : {X : Type 0} {x : X} → ◌≡◌ {A = Option X} None (Some x) → ⊥
-none_some {X} {x} e = let z : ◌≡◌ {A = ℕ} 0 1 = cc in omega arith
+use Rattle.admission.proofs.Deciding.{decides_is}
 
 module _ (P : Program) where
   abbrev T : List ℕ
@@ -67,14 +64,10 @@ module _ (P : Program) where
       where
         gone : (o : Option ℕ) → is_some o ≡ false → o ≡ None
         gone None e = refl
-        gone (Some x) e = absurd (clash (sym e))
+        gone (Some x) e = absurd (false≢true (sym e))
 
     none_other : ((k : ℕ) → Another k → ⊥) → strays T r ≡ false
-    none_other none = ap is_some (none_from (stray T r) (records T + 1) (λ k lt. not_so (stray T r k) (decides_stray k) (none k)))
-      where
-        not_so : {A : Type 0} (b : Bool) → Decides b A → (A → ⊥) → b ≡ false
-        not_so true d h = absurd (h (d.0 refl))
-        not_so false d h = refl
+    none_other none = ap is_some (none_from (stray T r) (records T + 1) (λ k lt. false_from_ne_true (stray T r k) (λ t. none k ((decides_stray k).0 t))))
 
   abbrev four : ℕ → ℕ → ℕ → ℕ → Roles
   four b l0 l1 l2 = record { background = b; levels = l0 ∷ l1 ∷ l2 ∷ [] }
@@ -107,15 +100,15 @@ module _ (P : Program) where
   roles_filled r e = by (found T Background 0) refl (found T Interrupt (v 0)) refl (found T Interrupt (v 1)) refl (found T Interrupt (v 2)) refl e
     where
       by : (ob : Option ℕ) → found T Background 0 ≡ ob → (o0 : Option ℕ) → found T Interrupt (v 0) ≡ o0 → (o1 : Option ℕ) → found T Interrupt (v 1) ≡ o1 → (o2 : Option ℕ) → found T Interrupt (v 2) ≡ o2 → joint T ob o0 o1 o2 ≡ Some r → Filled r
-      by None eb o0 e0 o1 e1 o2 e2 j = absurd (none_some j)
-      by (Some b) eb None e0 o1 e1 o2 e2 j = absurd (none_some j)
-      by (Some b) eb (Some l0) e0 None e1 o2 e2 j = absurd (none_some j)
-      by (Some b) eb (Some l0) e0 (Some l1) e1 None e2 j = absurd (none_some j)
+      by None eb o0 e0 o1 e1 o2 e2 j = absurd (none-some _ j)
+      by (Some b) eb None e0 o1 e1 o2 e2 j = absurd (none-some _ j)
+      by (Some b) eb (Some l0) e0 None e1 o2 e2 j = absurd (none-some _ j)
+      by (Some b) eb (Some l0) e0 (Some l1) e1 None e2 j = absurd (none-some _ j)
       by (Some b) eb (Some l0) e0 (Some l1) e1 (Some l2) e2 j = whole (strays T (four b l0 l1 l2)) refl j
         where
           whole : (s : Bool) → strays T (four b l0 l1 l2) ≡ s → cond s None (Some (four b l0 l1 l2)) ≡ Some r → Filled r
-          whole true es j = absurd (none_some j)
-          whole false es j = subst Filled (both_some j) (filled b l0 l1 l2 eb e0 e1 e2 es)
+          whole true es j = absurd (none-some _ j)
+          whole false es j = subst Filled (same_Some _ _ j) (filled b l0 l1 l2 eb e0 e1 e2 es)
 
   pub filled_entered : (r : Roles) → Filled r → Entered P
   filled_entered r f = record { background = r.background; first = f.first; one = f.one; level = level r; vectors = f.vectors; three = f.three }

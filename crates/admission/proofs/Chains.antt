@@ -1,10 +1,11 @@
 -- Going up through the records finds just those that the chain reaches.
 -- Assumes nothing.
 use Rattle.std.proofs.Common.{◌≡◌, ℕ, zero, suc, ◌<◌, ◌≤◌, true, false, eqb, ltb, ◌⊎◌, List, Decides, sym, refl, ◌∙◌, subst, inl, inr, ⊎_elim, arith}
-use borrow.Author.Tests.{clash}
-use Rattle.std.proofs.lemmas.Bool.{and_parts, and_from, and_right, or_cases, or_left, or_right, cases_eq, ltb-true, lt-ltb, eqb-true, eq-eqb, ne_eqb, cond-true, cond-false}
-use Rattle.admission.specs.Chain.{OnChain, head, link, Chained, awaited, chained, on_chain}
+use Rattle.std.proofs.lemmas.Bool.{false≢true, and_parts, and_from, and_right, or_cases, or_left, or_right, cases_eq, ltb-true, lt-ltb, eqb-true, eq-eqb, ne_eqb, cond-true, cond-false}
+use Rattle.std.proofs.lemmas.Bool.Decides.{Decides-eqb, Decides-ltb, Decides-and, Decides-or, Decides-not}
+use Rattle.admission.specs.Chain.{OnChain, head, link, Chained, awaited, chained, on_chain, linked}
 use Rattle.admission.specs.Tables.{records, next}
+use Rattle.admission.proofs.Deciding.{decides_leb}
 
 module _ (T : List ℕ) where
   -- one record further on, the awaited index is the same unless that record is the one
@@ -54,7 +55,7 @@ module _ (T : List ℕ) where
       by (j, on, low, named) (inr apart) = (j, on, omega arith, cond-false _ _ _ (ne_eqb (awaited T k) (suc k) apart) ∙ named)
 
   chained_on : (k : ℕ) → chained T k ≡ true → Chained T k
-  chained_on zero e = absurd (clash e)
+  chained_on zero e = absurd (false≢true e)
   chained_on (suc k) e =
       let parts = and_parts (ltb k (records T)) (eqb (awaited T k) (suc k)) e in
       let lt = ltb-true k (records T) parts.0 in
@@ -82,3 +83,6 @@ module _ (T : List ℕ) where
   skipped {k} on m zero e lt other = refl
   skipped {k} on m (suc q) e lt other =
       not_chained m q (stays k m q (on_awaited on ∙ e) (omega arith) (λ x more le. other x more (omega arith))) (other (suc q) lt (omega arith))
+
+  pub decides_linked : (k : ℕ) → Decides (linked T k) (((next T k ≡ 0) × (k ≡ 0 → ⊥)) ⊎ ((k < next T k) × (next T k ≤ records T)))
+  decides_linked k = Decides-or _ _ (Decides-and _ _ (Decides-eqb (next T k) 0) (Decides-not _ (Decides-eqb k 0))) (Decides-and _ _ (Decides-ltb k (next T k)) (decides_leb (next T k) (records T)))

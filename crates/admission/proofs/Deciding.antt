@@ -1,9 +1,9 @@
 -- Tests that decide statements, put together.
 -- Assumes nothing.
-use Rattle.std.proofs.Common.{◌≡◌, ℕ, ◌≤◌, Bool, true, false, not, ◌||◌, leb, is_some, is_ok, Some, None, Decides, Option, sym, refl, ap, ◌∙◌, arith}
-use borrow.Author.Tests.{clash}
-use Rattle.std.proofs.lemmas.Bool.{leb-true, le-leb}
+use Rattle.std.proofs.Common.{◌≡◌, ℕ, ◌≤◌, Bool, true, false, not, ◌||◌, leb, is_some, is_ok, Some, None, Decides, Option, sym, refl, ap, ◌∙◌}
+use Rattle.std.proofs.lemmas.Bool.{false≢true, leb-true, le-leb}
 use Rattle.std.proofs.lemmas.Bool.Decides.{Decides-eqb}
+use Rattle.std.proofs.lemmas.Option.{none-some}
 use Rattle.admission.specs.Roles.{kind_code, is}
 use Rattle.admission.specs.Tables.{kind_of}
 use Rattle.admission.specs.Tests.{unless}
@@ -16,11 +16,7 @@ decides_leb a b = (leb-true a b, le-leb a b)
 
 pub decides_implies : {A B : Type 0} (a b : Bool) → Decides a A → Decides b B → Decides (not a || b) (A → B)
 decides_implies true b da db = (λ e x. db.0 e, λ h. db.1 (h (da.0 refl)))
-decides_implies false b da db = (λ e x. absurd (clash (da.1 x)), λ h. refl)
-
--- what is under a premise that holds
-pub decides_under : {A B : Type 0} (b : Bool) → A → Decides b B → Decides b (A → B)
-decides_under b x d = (λ e y. d.0 e, λ h. d.1 (h x))
+decides_implies false b da db = (λ e x. absurd (false≢true (da.1 x)), λ h. refl)
 
 -- a kind that is named by a code
 kind_back : (k : Kind) → kind_of (kind_code k) ≡ Some k
@@ -30,10 +26,7 @@ kind_back Interrupt = refl
 kind_back Open = refl
 
 pub decides_is : (o : Option Kind) (k : Kind) → Decides (is o k) (o ≡ Some k)
-decides_is None k = (λ e. absurd (clash e), λ e. absurd (none_is k e))
-  where
-    none_is : (k : Kind) → ◌≡◌ {A = Option Kind} None (Some k) → ⊥
-    none_is k e = let z : ◌≡◌ {A = ℕ} 0 1 = cc in omega arith
+decides_is None k = (λ e. absurd (false≢true e), λ e. absurd (none-some k e))
 decides_is (Some j) k = (
   λ e. sym (kind_back j) ∙ ap kind_of ((Decides-eqb (kind_code j) (kind_code k)).0 e) ∙ kind_back k,
   λ e. (Decides-eqb (kind_code j) (kind_code k)).1 (ap code e),
@@ -44,15 +37,9 @@ decides_is (Some j) k = (
     code (Some i) = kind_code i
 
 pub decides_is_some : {X : Type 0} (o : Option X) → Decides (is_some o) ((x : X) × (o ≡ Some x))
-decides_is_some None = (λ e. absurd (clash e), λ h. absurd (never h.0 h.1))
-  where
-    never : {X : Type 0} (x : X) → ◌≡◌ {A = Option X} None (Some x) → ⊥
-    never x e = let z : ◌≡◌ {A = ℕ} 0 1 = cc in omega arith
+decides_is_some None = (λ e. absurd (false≢true e), λ h. absurd (none-some h.0 h.1))
 decides_is_some (Some x) = (λ e. (x, refl), λ h. refl)
 
 pub is_ok-unless : (b : Bool) (rule : LineRule) → is_ok (unless b rule) ≡ b
 is_ok-unless true rule = refl
 is_ok-unless false rule = refl
-
-pub both_some : {X : Type 0} {x y : X} → ◌≡◌ {A = Option X} (Some x) (Some y) → x ≡ y
-both_some {x} {y} e = cc

@@ -24,21 +24,21 @@ module _ (rule : LineRule) (P : Program) where
   Checked = Result (Unit {0}) Fault
 
   -- m is the answer at a, with the place
-  abbrev pub Placed : ℕ → Checked → Result (Unit {0}) Breach → Type 0
-  Placed a m r = MatchResult r (λ u. m ≡ Ok u) (λ b. m ≡ Err (record { breach = b; place = a }))
+  abbrev pub WithPlace : ℕ → Checked → Result (Unit {0}) Breach → Type 0
+  WithPlace a m r = MatchResult r (λ u. m ≡ Ok u) (λ b. m ≡ Err (record { breach = b; place = a }))
 
   module _ (a : ℕ) (r : Result (Unit {0}) Breach) (m : Checked) (before : lowest breaks a ≡ None) where
-    pub passes_more : (u : Unit {0}) → r ≡ answer a → Placed a m r → m ≡ Ok u → lowest breaks (a + 1) ≡ None
+    pub passes_more : (u : Unit {0}) → r ≡ answer a → WithPlace a m r → m ≡ Ok u → lowest breaks (a + 1) ≡ None
     passes_more u = by r
       where
-        by : (r : Result (Unit {0}) Breach) → r ≡ answer a → Placed a m r → m ≡ Ok u → lowest breaks (a + 1) ≡ None
+        by : (r : Result (Unit {0}) Breach) → r ≡ answer a → WithPlace a m r → m ≡ Ok u → lowest breaks (a + 1) ≡ None
         by (Ok v) is h ok = none_more breaks a before (ap (λ x. not (is_ok x)) (sym is))
         by (Err b) is h ok = grind arith
 
-    pub breaks_at : (f : Fault) → a < length P.lines → r ≡ answer a → Placed a m r → m ≡ Err f → ◌≡◌ {A = Checked} (Err f) (checked (Line rule ∷ []) P (Ok tt))
+    pub breaks_at : (f : Fault) → a < length P.lines → r ≡ answer a → WithPlace a m r → m ≡ Err f → ◌≡◌ {A = Checked} (Err f) (checked (Line rule ∷ []) P (Ok tt))
     breaks_at f lt = by r
       where
-        by : (r : Result (Unit {0}) Breach) → r ≡ answer a → Placed a m r → m ≡ Err f → ◌≡◌ {A = Checked} (Err f) (checked (Line rule ∷ []) P (Ok tt))
+        by : (r : Result (Unit {0}) Breach) → r ≡ answer a → WithPlace a m r → m ≡ Err f → ◌≡◌ {A = Checked} (Err f) (checked (Line rule ∷ []) P (Ok tt))
         by (Ok v) is h err = grind arith
         by (Err b) is h err =
             let at = found breaks a (length P.lines) lt before (ap (λ x. not (is_ok x)) (sym is)) in

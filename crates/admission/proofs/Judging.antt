@@ -1,7 +1,8 @@
 -- What admission answers is what the rules say.
 -- Assumes nothing.
-use Rattle.std.proofs.Common.{◌≡◌, ℕ, ◌-◌, ◌<◌, ◌≤◌, Bool, true, false, cond, not, eqb, ◌↔◌, List, get_or, Some, None, Ok, Err, Option, Result, unwrap_or, sym, refl, ap, ◌∙◌, subst, ⊎_elim, arith}
+use Rattle.std.proofs.Common.{◌≡◌, ℕ, ◌<◌, Bool, true, false, cond, not, eqb, ◌↔◌, List, Some, None, Ok, Err, Result, unwrap_or, sym, refl, ap, ◌∙◌, subst, ⊎_elim, arith}
 use Rattle.std.proofs.lemmas.Bool.{cases_order, cond-false, ne_eqb}
+use Rattle.std.proofs.lemmas.Option.{none-some, some_pair_parts}
 use Rattle.std.specs.Result.{result_err}
 use Rattle.words.specs.Decoding.{decoded}
 use Rattle.words.specs.declared.errors.DecodeError.{DecodeError}
@@ -21,83 +22,22 @@ use Rattle.admission.specs.declared.faults.Breach.TheVariants.{Broken, Undefined
 use Rattle.admission.specs.declared.faults.Fault.{Fault}
 use Rattle.admission.specs.declared.rules.LineRule.{LineRule}
 use Rattle.admission.specs.declared.rules.LineRule.TheVariants.{Owner, Word, StackUse, Successors, Callee, StatWrite}
-use Rattle.admission.specs.declared.rules.RecordRule.TheVariants.{Kinds, EntryLines}
 use Rattle.admission.specs.declared.rules.Rule.{Rule}
 use Rattle.admission.specs.declared.rules.Rule.TheVariants.{Description, Sizes, Chain, Record, Entries, Line, Depth}
 use Rattle.admission.proofs.Assigned.{roles_filled, entered_roles}
-use Rattle.admission.proofs.Verdicts.{Covers, Outcome, outcome, is_deepest, one_depth}
+use Rattle.admission.proofs.Verdicts.{numbered, same_rule, Outcome, outcome, is_deepest, one_depth}
 
 abbrev pub Answer : Type 0
 Answer = Result ℕ Fault
 
--- the list has each rule at its number
-in_list : (rule : Rule) → get_or rules (rule_number rule - 1) Depth ≡ rule
-in_list Description = refl
-in_list Sizes = refl
-in_list Chain = refl
-in_list (Record Kinds) = refl
-in_list Entries = refl
-in_list (Record EntryLines) = refl
-in_list (Line Owner) = refl
-in_list (Line Word) = refl
-in_list (Line StackUse) = refl
-in_list (Line Successors) = refl
-in_list (Line Callee) = refl
-in_list (Line StatWrite) = refl
-in_list Depth = refl
-
-same_rule : (q r : Rule) → rule_number q ≡ rule_number r → q ≡ r
-same_rule q r e = sym (in_list q) ∙ ap (λ n. get_or rules (n - 1) Depth) e ∙ in_list r
-
 pub few_rules : (q : Rule) → rule_number q < 14
-few_rules Description = omega arith
-few_rules Sizes = omega arith
-few_rules Chain = omega arith
-few_rules (Record Kinds) = omega arith
-few_rules Entries = omega arith
-few_rules (Record EntryLines) = omega arith
-few_rules (Line Owner) = omega arith
-few_rules (Line Word) = omega arith
-few_rules (Line StackUse) = omega arith
-few_rules (Line Successors) = omega arith
-few_rules (Line Callee) = omega arith
-few_rules (Line StatWrite) = omega arith
-few_rules Depth = omega arith
-
-no_rule : (q : Rule) → rule_number q < 1 → ⊥
-no_rule q lt = let some = at_least q in omega arith
-  where
-    at_least : (q : Rule) → 1 ≤ rule_number q
-    at_least Description = omega arith
-    at_least Sizes = omega arith
-    at_least Chain = omega arith
-    at_least (Record Kinds) = omega arith
-    at_least Entries = omega arith
-    at_least (Record EntryLines) = omega arith
-    at_least (Line Owner) = omega arith
-    at_least (Line Word) = omega arith
-    at_least (Line StackUse) = omega arith
-    at_least (Line Successors) = omega arith
-    at_least (Line Callee) = omega arith
-    at_least (Line StatWrite) = omega arith
-    at_least Depth = omega arith
+few_rules q = (numbered q).1
 
 ok_err : {d : ℕ} {f : Fault} → ◌≡◌ {A = Answer} (Err f) (Ok d) → ⊥
 ok_err {d} {f} e = let z : ◌≡◌ {A = ℕ} 0 1 = cc in omega arith
 
 same_ok : {c d : ℕ} → ◌≡◌ {A = Answer} (Ok c) (Ok d) → c ≡ d
 same_ok {c} {d} e = cc
-
-abbrev number_of : Option (ℕ × ℕ) → ℕ
-number_of None = 0
-number_of (Some log) = log.0
-
-abbrev place_of : Option (ℕ × ℕ) → ℕ
-place_of None = 0
-place_of (Some log) = log.1
-
-none_some : {log : ℕ × ℕ} → ◌≡◌ {A = Option (ℕ × ℕ)} None (Some log) → ⊥
-none_some {log} e = let z : ◌≡◌ {A = ℕ} 0 1 = cc in omega arith
 
 -- the rule that a line's breach breaks
 of_unless : (b : Bool) (rule : LineRule) → broken_rule (unwrap_or (result_err (unless b rule)) (Broken (Line rule))) ≡ Line rule
@@ -143,62 +83,11 @@ module _ (P : Program) where
   logged : (rule : Rule) (p : ℕ) → refusal (Err (fault rule P p)) ≡ Some (rule_number rule, p)
   logged rule p = ap (λ r. Some (rule_number r, p)) (of_breach rule p)
 
-  covers : Covers P 1 rules
-  covers = (
-    refl,
-    (λ q e. same_rule q Description e),
-    (
-      refl,
-      (λ q e. same_rule q Sizes e),
-      (
-        refl,
-        (λ q e. same_rule q Chain e),
-        (
-          refl,
-          (λ q e. same_rule q (Record Kinds) e),
-          (
-            refl,
-            (λ q e. same_rule q Entries e),
-            (
-              refl,
-              (λ q e. same_rule q (Record EntryLines) e),
-              (
-                refl,
-                (λ q e. same_rule q (Line Owner) e),
-                (
-                  refl,
-                  (λ q e. same_rule q (Line Word) e),
-                  (
-                    refl,
-                    (λ q e. same_rule q (Line StackUse) e),
-                    (
-                      refl,
-                      (λ q e. same_rule q (Line Successors) e),
-                      (
-                        refl,
-                        (λ q e. same_rule q (Line Callee) e),
-                        (
-                          refl,
-                          (λ q e. same_rule q (Line StatWrite) e),
-                          (refl, (λ q e. same_rule q Depth e), few_rules),
-                        ),
-                      ),
-                    ),
-                  ),
-                ),
-              ),
-            ),
-          ),
-        ),
-      ),
-    ),
-  )
-
   abbrev pub depth : ℕ
   depth = depth_of P.table (roles P)
 
   answered : Outcome P rules (Ok depth)
-  answered = outcome P 1 rules (Ok depth) covers (λ q lt. absurd (no_rule q lt))
+  answered = outcome P 1 rules (Ok depth) refl (λ q lt. let some = (numbered q).0 in absurd (omega arith))
 
   -- two first breaks are one
   one_break : (r q : Rule) (p s : ℕ) → FirstBreak P r p → FirstBreak P q s → (r ≡ q) × (p ≡ s)
@@ -245,8 +134,8 @@ module _ (P : Program) where
   judges_all : (r : Answer) → AllHold P → r ≡ Ok depth → Judges P r
   judges_all r all e = record {
     admits = λ d. (λ h. (all, subst (Deepest P) (same_ok (sym e ∙ h)) (is_depth all)), λ x. e ∙ ap Ok (one_depth P (all Entries 0 refl) depth d (is_depth all) x.1));
-    refuses = λ rule p. (λ h. absurd (none_some (sym (ap refusal e) ∙ h)), λ f. absurd (f.breaks (all rule p)));
-    carries = λ p x h. absurd (none_some (sym (ap refusal e) ∙ h));
+    refuses = λ rule p. (λ h. absurd (none-some _ (sym (ap refusal e) ∙ h)), λ f. absurd (f.breaks (all rule p)));
+    carries = λ p x h. absurd (none-some _ (sym (ap refusal e) ∙ h));
   }
 
   judges_break : (r : Answer) (q : Rule) (s : ℕ) → FirstBreak P q s → r ≡ Err (fault q P s) → Judges P r
@@ -262,8 +151,8 @@ module _ (P : Program) where
     where
       is_break : (rule : Rule) (p : ℕ) → refusal r ≡ Some (rule_number rule, p) → (q ≡ rule) × (s ≡ p)
       is_break rule p h =
-          let log = sym (logged q s) ∙ sym (ap refusal e) ∙ h in
-          (same_rule q rule (ap number_of log), ap place_of log)
+          let log = some_pair_parts _ _ _ _ (sym (logged q s) ∙ sym (ap refusal e) ∙ h) in
+          (same_rule q rule log.0, log.1)
 
       moved : (rule : Rule) (p : ℕ) → (q ≡ rule) × (s ≡ p) → FirstBreak P rule p
       moved rule p same = subst (λ z. FirstBreak P rule z) same.1 (subst (λ z. FirstBreak P z s) same.0 f)

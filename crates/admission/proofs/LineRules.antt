@@ -1,8 +1,7 @@
 -- The tests of the rules of lines decide what the rules say.
 -- Assumes nothing.
 use Rattle.std.proofs.Common.{◌≡◌, ℕ, ◌+◌, ◌*◌, ◌<◌, ◌≤◌, Bool, true, false, cond, not, ◌&&◌, ◌||◌, eqb, ◌⊎◌, List, is_ok, Some, None, Ok, Err, Decides, Option, Result, sym, refl, ap, ◌∙◌, subst, inl, inr, ⊎_elim, arith}
-use borrow.Author.Tests.{clash}
-use Rattle.std.proofs.lemmas.Bool.{and_parts, and_from, or_cases, or_left, or_right, not_from_false, cases_Bool, cond-false, cond-true, eq-eqb, ne_eqb, cases_eq}
+use Rattle.std.proofs.lemmas.Bool.{false≢true, and_parts, and_from, or_cases, or_left, or_right, not_from_false, cases_Bool, cond-false, cond-true, eq-eqb, ne_eqb, cases_eq}
 use Rattle.std.proofs.lemmas.Bool.Decides.{Decides-at, Decides-eqb, Decides-ltb, Decides-and, Decides-or, Decides-not, Decides-like}
 use Rattle.words.specs.Decoding.{decoded}
 use Rattle.words.specs.declared.conditions.Condition.{Condition}
@@ -39,16 +38,16 @@ same_ok {i} {j} e = cc
 err_ok : {e : DecodeError} {i : Instruction} → ◌≡◌ {A = Decoded} (Err e) (Ok i) → ⊥
 err_ok {e} {i} h = let z : ◌≡◌ {A = ℕ} 0 1 = cc in omega arith
 
--- tells push and pop from the rest
-abbrev rank : Flow → ℕ
-rank plain = 0
-rank push = 1
-rank pop = 2
-rank ret = 3
-rank reti = 4
-rank (jump cc t) = 5
-rank (call t) = 6
-rank calls = 7
+-- PUSH and POP alone move the height
+moving : (f : Flow) → (f ≡ push) ⊎ ((f ≡ pop) ⊎ ((f ≡ push → ⊥) × (f ≡ pop → ⊥) × ((h g : ℕ) → moves f h g ≡ eqb g h)))
+moving plain = inr (inr (λ e. cc, λ e. cc, λ h g. refl))
+moving push = inl refl
+moving pop = inr (inl refl)
+moving ret = inr (inr (λ e. cc, λ e. cc, λ h g. refl))
+moving reti = inr (inr (λ e. cc, λ e. cc, λ h g. refl))
+moving (jump on t) = inr (inr (λ e. cc, λ e. cc, λ h g. refl))
+moving (call t) = inr (inr (λ e. cc, λ e. cc, λ h g. refl))
+moving calls = inr (inr (λ e. cc, λ e. cc, λ h g. refl))
 
 -- a rule that speaks of the instruction is decided by a test of it
 defined : (d : Decoded) (rule : LineRule) (test : Instruction → Bool) {X : Type 0} → ((i : Instruction) → d ≡ Ok i → Decides (test i) X) → (((i : Instruction) → d ≡ Ok i → ⊥) → X) → Decides (is_ok (if_defined d rule test)) X
@@ -59,25 +58,25 @@ decides_is_stat : (r : Register) → Decides (is_stat r) (r ≡ Stat)
 decides_is_stat r = (gives r, λ e. ap is_stat e)
   where
     gives : (r : Register) → is_stat r ≡ true → r ≡ Stat
-    gives I0l e = absurd (clash e)
-    gives I0h e = absurd (clash e)
-    gives I1l e = absurd (clash e)
-    gives I1h e = absurd (clash e)
-    gives I2l e = absurd (clash e)
-    gives I2h e = absurd (clash e)
-    gives I3l e = absurd (clash e)
-    gives I3h e = absurd (clash e)
-    gives Ipl e = absurd (clash e)
-    gives Iph e = absurd (clash e)
+    gives I0l e = absurd (false≢true e)
+    gives I0h e = absurd (false≢true e)
+    gives I1l e = absurd (false≢true e)
+    gives I1h e = absurd (false≢true e)
+    gives I2l e = absurd (false≢true e)
+    gives I2h e = absurd (false≢true e)
+    gives I3l e = absurd (false≢true e)
+    gives I3h e = absurd (false≢true e)
+    gives Ipl e = absurd (false≢true e)
+    gives Iph e = absurd (false≢true e)
     gives Stat e = refl
-    gives R3 e = absurd (clash e)
-    gives R2 e = absurd (clash e)
-    gives R1 e = absurd (clash e)
-    gives R0 e = absurd (clash e)
-    gives A e = absurd (clash e)
+    gives R3 e = absurd (false≢true e)
+    gives R2 e = absurd (false≢true e)
+    gives R1 e = absurd (false≢true e)
+    gives R0 e = absurd (false≢true e)
+    gives A e = absurd (false≢true e)
 
 decides_writes_stat : (o : Option Register) → Decides (writes_stat o) (o ≡ Some Stat)
-decides_writes_stat None = (λ e. absurd (clash e), λ e. absurd (clash (ap writes_stat e)))
+decides_writes_stat None = (λ e. absurd (false≢true e), λ e. absurd (false≢true (ap writes_stat e)))
 decides_writes_stat (Some r) = (λ e. ap Some ((decides_is_stat r).0 e), λ e. ap writes_stat e)
 
 decides_may_call : (caller callee : Option Kind) → Decides (may_call caller callee) (MayCall caller callee)
@@ -125,16 +124,16 @@ module _ (P : Program) (a : ℕ) where
   decides_word = by (decoded (P.word a)) refl
     where
       by : (d : Decoded) → decoded (P.word a) ≡ d → Decides (is_ok (word_checked d)) (Permitted P a)
-      by (Err e) at = (λ t. absurd (clash t), λ h. absurd (err_ok (sym at ∙ h.at)))
+      by (Err e) at = (λ t. absurd (false≢true t), λ h. absurd (err_ok (sym at ∙ h.at)))
       by (Ok i) at = (
         λ t.
             let yes' = sym (is_ok-unless (permitted (flow i)) Word) ∙ t in
             record {
               instruction = i;
               at = at;
-              no_calls = λ t e. clash (sym (ap (λ j. permitted (flow j)) e) ∙ yes');
-              no_call_ip = λ e. clash (sym (ap (λ j. permitted (flow j)) e) ∙ yes');
-              no_jump_ip = λ cc e. clash (sym (ap (λ j. permitted (flow j)) e) ∙ yes');
+              no_calls = λ t e. false≢true (sym (ap (λ j. permitted (flow j)) e) ∙ yes');
+              no_call_ip = λ e. false≢true (sym (ap (λ j. permitted (flow j)) e) ∙ yes');
+              no_jump_ip = λ cc e. false≢true (sym (ap (λ j. permitted (flow j)) e) ∙ yes');
             },
         λ h. is_ok-unless (permitted (flow i)) Word ∙ allowed h (same_ok (sym h.at ∙ at)) (flow i) (shape i),
       )
@@ -195,9 +194,9 @@ module _ (P : Program) (a : ℕ) where
         gives t = record {
           instruction = i;
           at = at;
-          no_jump = λ to q. clash (subst (λ f. goes_on f ≡ true) (flows (Jump Always to) q) t);
-          no_ret = λ q. clash (subst (λ f. goes_on f ≡ true) (flows Ret q) t);
-          no_reti = λ q. clash (subst (λ f. goes_on f ≡ true) (flows Reti q) t);
+          no_jump = λ to q. false≢true (subst (λ f. goes_on f ≡ true) (flows (Jump Always to) q) t);
+          no_ret = λ q. false≢true (subst (λ f. goes_on f ≡ true) (flows Ret q) t);
+          no_reti = λ q. false≢true (subst (λ f. goes_on f ≡ true) (flows Reti q) t);
         }
 
         takes : (f : Flow) → Shape f i → GoesOn P a → goes_on f ≡ true
@@ -217,39 +216,33 @@ module _ (P : Program) (a : ℕ) where
         takes (call t) s x = refl
         takes calls s x = refl
 
+    no_both : {f : Flow} → f ≡ push → f ≡ pop → ⊥
+    no_both p q = let e : push ≡ pop = sym p ∙ q in cc
+
     -- the height g is what the instruction leaves
     decides_moves : (g : ℕ) → Decides (moves (flow i) (height_at P a) g) (Leaves P a g)
-    decides_moves g = (gives (flow i) refl, takes (flow i) refl (shape i))
+    decides_moves g = ⊎_elim pushed (⊎_elim popped other) (moving (flow i))
       where
-        gives : (f : Flow) → flow i ≡ f → moves f (height_at P a) g ≡ true → Leaves P a g
-        gives f e t = record {
-          push = λ q. (Decides-eqb g (height_at P a + 1)).0 (subst (λ x. moves x (height_at P a) g ≡ true) (sym e ∙ flows Push q) t);
-          pop = λ q. (Decides-eqb (g + 1) (height_at P a)).0 (subst (λ x. moves x (height_at P a) g ≡ true) (sym e ∙ flows Pop q) t);
-          other = λ no_push no_pop. others f e t no_push no_pop (subst (λ x. Shape x i) e (shape i));
-        }
-          where
-            others : (f : Flow) → flow i ≡ f → moves f (height_at P a) g ≡ true → (At P a Push → ⊥) → (At P a Pop → ⊥) → Shape f i → g ≡ height_at P a
-            others plain e t np nq s = (Decides-eqb g (height_at P a)).0 t
-            others push e t np nq s = absurd (np (there s))
-            others pop e t np nq s = absurd (nq (there s))
-            others ret e t np nq s = (Decides-eqb g (height_at P a)).0 t
-            others reti e t np nq s = (Decides-eqb g (height_at P a)).0 t
-            others (jump cc to) e t np nq s = (Decides-eqb g (height_at P a)).0 t
-            others (call to) e t np nq s = (Decides-eqb g (height_at P a)).0 t
-            others calls e t np nq s = (Decides-eqb g (height_at P a)).0 t
+        is_push : flow i ≡ push → i ≡ Push
+        is_push e = subst (λ f. Shape f i) e (shape i)
 
-        apart : (f : Flow) → flow i ≡ f → (rank f ≡ 1 → ⊥) → (rank f ≡ 2 → ⊥) → Leaves P a g → eqb g (height_at P a) ≡ true
-        apart f e no_push no_pop x = (Decides-eqb g (height_at P a)).1 (x.other (λ q. no_push (ap rank (sym e ∙ flows Push q))) (λ q. no_pop (ap rank (sym e ∙ flows Pop q))))
+        is_pop : flow i ≡ pop → i ≡ Pop
+        is_pop e = subst (λ f. Shape f i) e (shape i)
 
-        takes : (f : Flow) → flow i ≡ f → Shape f i → Leaves P a g → moves f (height_at P a) g ≡ true
-        takes plain e s x = apart plain e (λ z. omega arith) (λ z. omega arith) x
-        takes push e s x = (Decides-eqb g (height_at P a + 1)).1 (x.push (there s))
-        takes pop e s x = (Decides-eqb (g + 1) (height_at P a)).1 (x.pop (there s))
-        takes ret e s x = apart ret e (λ z. omega arith) (λ z. omega arith) x
-        takes reti e s x = apart reti e (λ z. omega arith) (λ z. omega arith) x
-        takes (jump cc to) e s x = apart (jump cc to) e (λ z. omega arith) (λ z. omega arith) x
-        takes (call to) e s x = apart (call to) e (λ z. omega arith) (λ z. omega arith) x
-        takes calls e s x = apart calls e (λ z. omega arith) (λ z. omega arith) x
+        pushed : flow i ≡ push → Decides (moves (flow i) (height_at P a) g) (Leaves P a g)
+        pushed e =
+            Decides-like _ (λ t. record { push = λ q. t; pop = λ q. absurd (no_both e (flows Pop q)); other = λ no_push no_pop. absurd (no_push (there (is_push e))) }) (λ x. x.push (there (is_push e)))
+            (Decides-at _ _ (ap (λ f. moves f (height_at P a) g) e) (Decides-eqb g (height_at P a + 1)))
+
+        popped : flow i ≡ pop → Decides (moves (flow i) (height_at P a) g) (Leaves P a g)
+        popped e =
+            Decides-like _ (λ t. record { push = λ q. absurd (no_both (flows Push q) e); pop = λ q. t; other = λ no_push no_pop. absurd (no_pop (there (is_pop e))) }) (λ x. x.pop (there (is_pop e)))
+            (Decides-at _ _ (ap (λ f. moves f (height_at P a) g) e) (Decides-eqb (g + 1) (height_at P a)))
+
+        other : (flow i ≡ push → ⊥) × (flow i ≡ pop → ⊥) × ((h g : ℕ) → moves (flow i) h g ≡ eqb g h) → Decides (moves (flow i) (height_at P a) g) (Leaves P a g)
+        other (no_push, no_pop, stays) =
+            Decides-like _ (λ t. record { push = λ q. absurd (no_push (flows Push q)); pop = λ q. absurd (no_pop (flows Pop q)); other = λ np nq. t }) (λ x. x.other (λ q. no_push (flows Push q)) (λ q. no_pop (flows Pop q)))
+            (Decides-at _ _ (stays (height_at P a) g) (Decides-eqb g (height_at P a)))
 
     decides_leads : (b : ℕ) → Decides (leads P.count L (flow i) a b) ((b < P.count) × ((owner_of P b ≡ owner_of P a) × Leaves P a (height_at P b)))
     decides_leads b = Decides-and _ _ (Decides-ltb b P.count) (Decides-and _ _ (Decides-eqb (owner_of P b) (owner_of P a)) (decides_moves (height_at P b)))
@@ -263,11 +256,11 @@ module _ (P : Program) (a : ℕ) where
     decides_target : Decides (target_sound P.count L (flow i) a) ((cc : Condition) (t : ℕ) → At P a (Jump cc (Address t)) → Leads P a t (height_at P a))
     decides_target = (gives, takes (flow i) refl (shape i))
       where
-        no_push : {cc : Condition} {to : Target} → At P a (Jump cc to) → At P a Push → ⊥
-        no_push {cc} {to} q p = let z : ◌≡◌ {A = ℕ} 5 1 = ap rank (sym (flows (Jump cc to) q) ∙ flows Push p) in omega arith
+        no_push : {on : Condition} {to : Target} → At P a (Jump on to) → At P a Push → ⊥
+        no_push {on} {to} q p = let e : jump on to ≡ push = sym (flows (Jump on to) q) ∙ flows Push p in cc
 
-        no_pop : {cc : Condition} {to : Target} → At P a (Jump cc to) → At P a Pop → ⊥
-        no_pop {cc} {to} q p = let z : ◌≡◌ {A = ℕ} 5 2 = ap rank (sym (flows (Jump cc to) q) ∙ flows Pop p) in omega arith
+        no_pop : {on : Condition} {to : Target} → At P a (Jump on to) → At P a Pop → ⊥
+        no_pop {on} {to} q p = let e : jump on to ≡ pop = sym (flows (Jump on to) q) ∙ flows Pop p in cc
 
         gives : target_sound P.count L (flow i) a ≡ true → (cc : Condition) (t : ℕ) → At P a (Jump cc (Address t)) → Leads P a t (height_at P a)
         gives e cc t q =

@@ -1,9 +1,8 @@
 -- What the rules are tested by decides what they say, and the first one that is broken is found.
 -- Assumes nothing.
-use Rattle.std.proofs.Common.{◌≡◌, ℕ, zero, suc, ◌+◌, ◌*◌, ◌%◌, ◌<◌, ◌≤◌, max, Bool, false, not, leb, ◌⊎◌, List, [], ◌∷◌, length, Some, None, Err, Decides, Option, Result, sym, refl, ap, ◌∙◌, subst, inl, inr, ⊎_elim, arith, rules as steps}
-use borrow.Author.Tests.{clash}
-use Rattle.std.proofs.lemmas.Bool.{not-true, not-false, cases_lt, cases_eq}
-use Rattle.std.proofs.lemmas.Bool.Decides.{Decides-at, Decides-eqb, Decides-ltb, Decides-and, Decides-or, Decides-not, Decides-like}
+use Rattle.std.proofs.Common.{◌≡◌, ℕ, zero, suc, ◌+◌, ◌*◌, ◌%◌, ◌<◌, ◌≤◌, ◌-◌, max, Bool, true, false, not, ◌&&◌, eqb, leb, get_or, ◌⊎◌, List, [], ◌∷◌, length, Some, None, Err, Decides, Option, Result, sym, refl, ap, ◌∙◌, subst, inl, inr, ⊎_elim, arith, rules as steps}
+use Rattle.std.proofs.lemmas.Bool.{false≢true, and_parts, eqb-true, not-true, not-false, cases_lt, cases_eq}
+use Rattle.std.proofs.lemmas.Bool.Decides.{Decides-at, Decides-eqb, Decides-ltb, Decides-and, Decides-like}
 use Rattle.platform.specs.Description.{in_limits, InLimits}
 use Rattle.platform.specs.declared.description.CoreDescription.{CoreDescription}
 use Rattle.platform.proofs.Search.{none_gives, some_gives}
@@ -11,10 +10,10 @@ use Rattle.admission.specs.Admission.{places, roles, fits, sound, broken, fault,
 use Rattle.admission.specs.Chain.{OnChain, linked}
 use Rattle.admission.specs.Laws.{Before, AllHold, FirstBreak}
 use Rattle.admission.specs.Program.{Program}
-use Rattle.admission.specs.Refusals.{rule_number}
+use Rattle.admission.specs.Refusals.{rules, rule_number}
 use Rattle.admission.specs.Roles.{level, deepest}
 use Rattle.admission.specs.Rules.{Routine, Sized, Linked, Entered, Owned, FitsDepth, Holds, Deepest}
-use Rattle.admission.specs.Tables.{records, entry, kind, need, next, line}
+use Rattle.admission.specs.Tables.{records, entry, kind, need, line}
 use Rattle.admission.specs.Tests.{sized}
 use Rattle.admission.specs.declared.faults.Fault.{Fault}
 use Rattle.admission.specs.declared.kinds.Kind.TheVariants.{Interrupt}
@@ -25,12 +24,39 @@ use Rattle.admission.specs.declared.rules.RecordRule.TheVariants.{Kinds, EntryLi
 use Rattle.admission.specs.declared.rules.Rule.{Rule}
 use Rattle.admission.specs.declared.rules.Rule.TheVariants.{Description, Sizes, Chain, Record, Entries, Line, Depth}
 use Rattle.admission.proofs.Assigned.{Filled, roles_filled, filled_entered, entered_roles}
-use Rattle.admission.proofs.Chains.{decides_chained, decides_on_chain, low_on}
-use Rattle.admission.proofs.Deciding.{decides_leb, decides_implies, decides_under, decides_is_some}
+use Rattle.admission.proofs.Chains.{decides_chained, decides_on_chain, decides_linked, low_on}
+use Rattle.admission.proofs.Deciding.{decides_leb, decides_implies, decides_is_some}
 use Rattle.admission.proofs.LineRules.{owner_decided, word_decided, stack_decided, successors_decided, call_decided, stat_decided}
 
 limits_decided : (d : CoreDescription) → Decides (in_limits d) (InLimits d)
 limits_decided d = search steps
+
+-- each rule has a number of its own
+abbrev Numbered : Rule → Type 0
+Numbered rule = (1 ≤ rule_number rule) × (rule_number rule < 14) × (get_or rules (rule_number rule - 1) Depth ≡ rule)
+
+pub numbered : (rule : Rule) → Numbered rule
+numbered Description = (omega arith, omega arith, refl)
+numbered Sizes = (omega arith, omega arith, refl)
+numbered Chain = (omega arith, omega arith, refl)
+numbered (Record Kinds) = (omega arith, omega arith, refl)
+numbered Entries = (omega arith, omega arith, refl)
+numbered (Record EntryLines) = (omega arith, omega arith, refl)
+numbered (Line Owner) = (omega arith, omega arith, refl)
+numbered (Line Word) = (omega arith, omega arith, refl)
+numbered (Line StackUse) = (omega arith, omega arith, refl)
+numbered (Line Successors) = (omega arith, omega arith, refl)
+numbered (Line Callee) = (omega arith, omega arith, refl)
+numbered (Line StatWrite) = (omega arith, omega arith, refl)
+numbered Depth = (omega arith, omega arith, refl)
+
+pub same_rule : (q r : Rule) → rule_number q ≡ rule_number r → q ≡ r
+same_rule q r e = sym (numbered q).2 ∙ ap (λ n. get_or rules (n - 1) Depth) e ∙ (numbered r).2
+
+-- the list has the rules from number low on, in their order
+abbrev pub in_order : ℕ → List Rule → Bool
+in_order low [] = eqb low 14
+in_order low (r ∷ rs) = eqb (rule_number r) low && in_order (low + 1) rs
 
 module _ (P : Program) where
   abbrev pub T : List ℕ
@@ -42,7 +68,7 @@ module _ (P : Program) where
 
   -- a rule without places is tested at 0
   placeless : {X : Type 0} (b : Bool) → Decides b X → (p : ℕ) → (p < 1 → Decides b (p ≡ 0 → X)) × (1 ≤ p → p ≡ 0 → X)
-  placeless b d p = (λ lt. decides_under b (omega arith) d, λ some z. absurd (omega arith))
+  placeless b d p = (λ lt. Decides-like b (λ x z. x) (λ f. f (omega arith)) d, λ some z. absurd (omega arith))
 
   sizes_decided : Decides (sized P.count T P.lines) (Sized P)
   sizes_decided =
@@ -58,7 +84,7 @@ module _ (P : Program) where
   linked_decided : (k : ℕ) → Decides (linked T k) (Linked P k)
   linked_decided k =
       Decides-like _ (⊎_elim (λ h. inl (some k h.1, h.0)) inr) (⊎_elim (λ h. inl (h.1, λ z. let low = h.0 in omega arith)) inr)
-      (Decides-or _ _ (Decides-and _ _ (Decides-eqb (next T k) 0) (Decides-not _ (Decides-eqb k 0))) (Decides-and _ _ (Decides-ltb k (next T k)) (decides_leb (next T k) (records T))))
+      (decides_linked T k)
     where
       some : (k : ℕ) → (k ≡ 0 → ⊥) → 1 ≤ k
       some k other = omega arith
@@ -128,31 +154,19 @@ module _ (P : Program) where
   judged (Record Kinds) before = λ p. (λ lt. decides_implies _ _ (decides_chained T p) (Decides-and _ _ (decides_is_some (kind T p)) (decides_leb (need T p) 16)), λ ge h. far ge h.0)
   judged Entries before = placeless _ ((λ e. let r = (decides_is_some (roles P)).0 e in filled_entered P r.0 (roles_filled P r.0 r.1)), λ h. (decides_is_some (roles P)).1 (entered_roles P (before Description (omega arith) 0 refl) h))
   judged (Record EntryLines) before = λ p. (λ lt. decides_implies _ _ (decides_chained T p) (Decides-and _ _ (Decides-ltb (entry T p) P.count) (Decides-eqb (line P.lines (entry T p)) (32 * p))), λ ge h. far ge h.0)
-  judged (Line rule) before = λ p. (λ lt. by rule before p (let all = (before Sizes (first rule) 0 refl).lines in omega arith), λ ge. past rule p (λ h. let all = (before Sizes (first rule) 0 refl).lines in let low = h.0 in omega arith))
+  judged (Line rule) before = λ p. (λ lt. let all = lines.lines in (by rule before p).1 (omega arith), λ ge. (by rule before p).2 (λ h. let all = lines.lines in let low = h.0 in omega arith))
     where
-      first : (rule : LineRule) → rule_number Sizes < rule_number (Line rule)
-      first Owner = omega arith
-      first Word = omega arith
-      first StackUse = omega arith
-      first Successors = omega arith
-      first Callee = omega arith
-      first StatWrite = omega arith
+      -- the rule comes after that on sizes, is decided at each word, and says nothing elsewhere
+      by : (rule : LineRule) → Before P (Line rule) → (p : ℕ) → (rule_number Sizes < rule_number (Line rule)) × (p < P.count → Decides (sound (Line rule) P p) (Holds P (Line rule) p)) × ((Owned P p → ⊥) → Holds P (Line rule) p)
+      by Owner before p = (omega arith, owner_decided P p, λ none h. absurd (none h))
+      by Word before p = (omega arith, word_decided P p, λ none h. absurd (none h))
+      by StackUse before p = (omega arith, stack_decided P p, λ none h. absurd (none h))
+      by Successors before p = (omega arith, successors_decided P p, λ none h. absurd (none h))
+      by Callee before p = (omega arith, (λ lt. call_decided P p lt (λ k on. before (Record EntryLines) (omega arith) k on)), λ none h. absurd (none h))
+      by StatWrite before p = (omega arith, stat_decided P p, λ none h. absurd (none h))
 
-      by : (rule : LineRule) → Before P (Line rule) → (p : ℕ) → p < P.count → Decides (sound (Line rule) P p) (Holds P (Line rule) p)
-      by Owner before p lt = owner_decided P p lt
-      by Word before p lt = word_decided P p lt
-      by StackUse before p lt = stack_decided P p lt
-      by Successors before p lt = successors_decided P p lt
-      by Callee before p lt = call_decided P p lt (λ k on. before (Record EntryLines) (omega arith) k on)
-      by StatWrite before p lt = stat_decided P p lt
-
-      past : (rule : LineRule) (p : ℕ) → (Owned P p → ⊥) → Holds P (Line rule) p
-      past Owner p no_line = λ h. absurd (no_line h)
-      past Word p no_line = λ h. absurd (no_line h)
-      past StackUse p no_line = λ h. absurd (no_line h)
-      past Successors p no_line = λ h. absurd (no_line h)
-      past Callee p no_line = λ h. absurd (no_line h)
-      past StatWrite p no_line = λ h. absurd (no_line h)
+      lines : Sized P
+      lines = before Sizes (by rule before 0).0 0 refl
   judged Depth before =
       let r = entered_roles P (before Description (omega arith) 0 refl) (before Entries (omega arith) 0 refl) in
       placeless _ (Decides-at _ _ (ap (fits T P.description.depth) r.1) (depth_decided r.0 (roles_filled P r.0 r.1)))
@@ -177,13 +191,8 @@ module _ (P : Program) where
         record {
           before = before;
           below = λ q lt. passed_at q (omega arith) (got.1 q lt);
-          breaks = λ h. clash (sym (not-true (sound rule P p) got.2) ∙ ((j p).0 got.0).1 h);
+          breaks = λ h. false≢true (sym (not-true (sound rule P p) got.2) ∙ ((j p).0 got.0).1 h);
         }
-
-  -- the rules of the list are those with a number of at least low, in their order
-  abbrev pub Covers : ℕ → List Rule → Type 0
-  Covers low [] = (q : Rule) → rule_number q < low
-  Covers low (r ∷ rs) = (rule_number r ≡ low) × ((q : Rule) → rule_number q ≡ low → q ≡ r) × Covers (low + 1) rs
 
   abbrev pub BeforeAll : ℕ → Type 0
   BeforeAll low = (q : Rule) → rule_number q < low → Held q
@@ -191,17 +200,23 @@ module _ (P : Program) where
   abbrev pub Outcome : List Rule → Result ℕ Fault → Type 0
   Outcome rs last = (AllHold P × (checked rs P last ≡ last)) ⊎ ((rule : Rule) × (p : ℕ) × FirstBreak P rule p × (checked rs P last ≡ Err (fault rule P p)))
 
-  pub outcome : (low : ℕ) (rs : List Rule) (last : Result ℕ Fault) → Covers low rs → BeforeAll low → Outcome rs last
-  outcome low [] last all before = inl (λ q p. before q (all q) p, refl)
-  outcome low (r ∷ rs) last (is-low, only, more) before = by (outcome (low + 1) rs last more) (broken r P) refl
+  pub outcome : (low : ℕ) (rs : List Rule) (last : Result ℕ Fault) → in_order low rs ≡ true → BeforeAll low → Outcome rs last
+  outcome low [] last all before = inl (λ q p. let few = (numbered q).1 in let end = eqb-true low 14 all in before q (omega arith) p, refl)
+  outcome low (r ∷ rs) last order before = by (outcome (low + 1) rs last parts.1) (broken r P) refl
     where
+      parts : (eqb (rule_number r) low ≡ true) × (in_order (low + 1) rs ≡ true)
+      parts = and_parts _ _ order
+
+      is_low : rule_number r ≡ low
+      is_low = eqb-true (rule_number r) low parts.0
+
       here : Before P r
-      here q lt = before q (omega arith)
+      here q lt = before q (omega (arith, is_low))
 
       by : (BeforeAll (low + 1) → Outcome rs last) → (o : Option ℕ) → broken r P ≡ o → Outcome (r ∷ rs) last
       by rest None none =
           let held = held_from r (judged r here) none in
           let same = ap (λ o. unless_at o (fault r P) (checked rs P last)) none in
           ⊎_elim (λ h. inl (h.0, same ∙ h.1)) (λ h. inr (h.0, h.1, h.2, same ∙ h.3))
-          (rest (λ q lt. ⊎_elim (λ e. subst Held (sym (only q e)) held) (λ other. before q (omega arith)) (cases_eq (rule_number q) low)))
+          (rest (λ q lt. ⊎_elim (λ e. subst Held (sym (same_rule q r (e ∙ sym is_low))) held) (λ other. before q (omega arith)) (cases_eq (rule_number q) low)))
       by rest (Some p) some = inr (r, p, breaks_from r (judged r here) here p some, ap (λ o. unless_at o (fault r P) (checked rs P last)) some)

@@ -1,12 +1,12 @@
 -- What the walk along the chain keeps true, and what it finds.
 -- Assumes nothing.
-use Rattle.std.proofs.Common.{◌≡◌, ℕ, zero, suc, ◌+◌, ◌<◌, ◌≤◌, Bool, true, false, not, ◌&&◌, eqb, ltb, leb, ◌⊎◌, List, length, get_or, set, replicate, Some, None, sym, refl, ap, ◌∙◌, subst, inl, inr, ⊎_elim, arith}
+use Rattle.std.proofs.Common.{◌≡◌, ℕ, zero, suc, ◌+◌, ◌<◌, ◌≤◌, Bool, true, false, not, ◌&&◌, eqb, leb, ◌⊎◌, List, length, get_or, set, replicate, Some, None, sym, refl, ap, ◌∙◌, subst, inl, inr, ⊎_elim, arith}
 use Rattle.std.proofs.lemmas.List.{length-set, length-replicate, get_or-replicate, get_or-set_same, get_or-set_other}
-use Rattle.std.proofs.lemmas.Bool.{and_from, and_left, and_right, or_left, or_right, or_from, cases_eq, cases_order, not_from_true, not_from_false, lt-ltb, le-ltb, le-leb, lt-leb, eq-eqb, ne_eqb}
+use Rattle.std.proofs.lemmas.Bool.{false_from_ne_true, and_from, and_left, and_right, or_left, or_right, or_from, cases_eq, cases_order, not_from_true, not_from_false, le-leb, lt-leb, ne_eqb}
 use Rattle.platform.proofs.Search.{none_from, some_from}
 use Rattle.admission.specs.Chain.{OnChain, head, link, chained, on_chain, linked, link_sound, broken_link}
 use Rattle.admission.specs.Tables.{records, next}
-use Rattle.admission.proofs.Chains.{decides_chained, decides_on_chain, low_on, skipped}
+use Rattle.admission.proofs.Chains.{decides_chained, decides_on_chain, decides_linked, low_on, skipped}
 
 -- the walk has come to record k, and has marked the records up to there
 pub record Walked (T : List ℕ) (marks : List Bool) (k : ℕ) : Type 0 where
@@ -25,27 +25,9 @@ module _ (T : List ℕ) where
   on_link : (q : ℕ) → linked T q ≡ true → link_sound T q ≡ true
   on_link q e = or_right (not (on_chain T q)) (linked T q) e
 
-  up_linked : (k m : ℕ) → next T k ≡ m → k < m → m ≤ records T → linked T k ≡ true
-  up_linked k m e lt le = or_right (eqb (next T k) 0 && not (eqb k 0)) _ (and_from (ltb k (next T k)) (leb (next T k) (records T)) (lt-ltb k (next T k) (omega arith)) (le-leb (next T k) (records T) (omega arith)))
-
-  last_linked : (k : ℕ) → next T k ≡ 0 → 0 < k → linked T k ≡ true
-  last_linked k e some = or_left (eqb (next T k) 0 && not (eqb k 0)) _ (and_from (eqb (next T k) 0) (not (eqb k 0)) (eq-eqb (next T k) 0 e) (not_from_false (eqb k 0) (ne_eqb k 0 (λ z. omega arith))))
-
   -- the chain neither ends nor goes on
   pub unlinked : (k : ℕ) → (next T k ≡ 0 → k ≡ 0) → (next T k ≤ k) ⊎ (records T < next T k) → linked T k ≡ false
-  unlinked k no_end no-next = or_from (eqb (next T k) 0 && not (eqb k 0)) (ltb k (next T k) && leb (next T k) (records T)) (⊎_elim ended going (cases_eq (next T k) 0)) (⊎_elim back far no-next)
-    where
-      ended : next T k ≡ 0 → (eqb (next T k) 0 && not (eqb k 0)) ≡ false
-      ended e = and_right (eqb (next T k) 0) (not (eqb k 0)) (not_from_true (eqb k 0) (eq-eqb k 0 (no_end e)))
-
-      going : (next T k ≡ 0 → ⊥) → (eqb (next T k) 0 && not (eqb k 0)) ≡ false
-      going other = and_left (eqb (next T k) 0) (not (eqb k 0)) (ne_eqb (next T k) 0 other)
-
-      back : next T k ≤ k → (ltb k (next T k) && leb (next T k) (records T)) ≡ false
-      back le = and_left (ltb k (next T k)) (leb (next T k) (records T)) (le-ltb k (next T k) le)
-
-      far : records T < next T k → (ltb k (next T k) && leb (next T k) (records T)) ≡ false
-      far lt = and_right (ltb k (next T k)) (leb (next T k) (records T)) (lt-leb (next T k) (records T) lt)
+  unlinked k no_end no_next = false_from_ne_true (linked T k) (λ t. ⊎_elim (λ end. end.1 (no_end end.0)) (λ on. ⊎_elim (λ back. omega (arith, on.0)) (λ far. omega (arith, on.1)) no_next) ((decides_linked T k).0 t))
 
   pub begun : Walked T (replicate 256 false) 0
   begun = record {
@@ -63,7 +45,7 @@ module _ (T : List ℕ) where
     pub goes_on_lem : (m : ℕ) → next T k ≡ m → k < m → m ≤ records T → Walked T (set marks m true) m
     goes_on_lem m e lt le = record {
       on = link w.on e lt le;
-      before = λ q low. ⊎_elim (λ here. subst (λ x. link_sound T x ≡ true) (sym here) (on_link k (up_linked k m e lt le))) (⊎_elim (λ less. w.before q less) (λ more. off q (not_on q (omega arith) (between q more low)))) (cases_order q k);
+      before = λ q low. ⊎_elim (λ here. subst (λ x. link_sound T x ≡ true) (sym here) (on_link k ((decides_linked T k).1 (inr (omega arith, omega arith))))) (⊎_elim (λ less. w.before q less) (λ more. off q (not_on q (omega arith) (between q more low)))) (cases_order q k);
       long = length-set marks m true ∙ w.long;
       marked = λ q small. ⊎_elim (at q small) (away q small) (cases_eq q m);
     }
@@ -104,7 +86,7 @@ module _ (T : List ℕ) where
       ends = none_from (λ q. not (link_sound T q)) (records T + 1) (λ q lt. not_from_true (link_sound T q) (each q))
         where
           each : (q : ℕ) → link_sound T q ≡ true
-          each q = ⊎_elim (λ here. subst (λ x. link_sound T x ≡ true) (sym here) (on_link k (last_linked k e some))) (⊎_elim (λ less. w.before q less) (λ more. off q (not_on q (omega arith) (beyond q more)))) (cases_order q k)
+          each q = ⊎_elim (λ here. subst (λ x. link_sound T x ≡ true) (sym here) (on_link k ((decides_linked T k).1 (inl (e, λ z. omega arith))))) (⊎_elim (λ less. w.before q less) (λ more. off q (not_on q (omega arith) (beyond q more)))) (cases_order q k)
 
       pub all_marked : (q : ℕ) → q < 256 → get_or marks q false ≡ chained T q
       all_marked q small = w.marked q small ∙ by (cases_order q k)
