@@ -21,11 +21,10 @@ impl Chain<'_> {
     fn is_stray(&self, roles: Roles, index: u16) -> bool
         ensures { result ≡ stray (table_in self.now) roles index }
     {
-        let [level0, level1, level2] = roles.levels;
         self.reaches(index)
             && match self.table.kind(index) {
                 Some(Kind::Background) => index != roles.background,
-                Some(Kind::Interrupt) => index != level0 && index != level1 && index != level2,
+                Some(Kind::Interrupt) => !roles.levels.contains(&index),
                 _ => false,
             }
     }

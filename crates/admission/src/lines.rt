@@ -99,17 +99,15 @@ impl Candidate<'_, '_> {
     fn instruction_is_sound(&self, rule: LineRule, placed: Placed) -> bool
         ensures { result ≡ instruction_sound rule (length (lines_in self.now)) (table_in self.now.chain) (lines_in self.now) placed.instruction placed.address }
     {
-        let Placed {
-            instruction,
-            address,
-        } = placed;
-        let kind = self.chain.table.kind(self.owner(address));
+        let kind = self.chain.table.kind(self.owner(placed.address));
         match rule {
             LineRule::Owner | LineRule::Word => true,
-            LineRule::StackUse => stack_is_sound(instruction, kind, self.height(address)),
+            LineRule::StackUse => {
+                stack_is_sound(placed.instruction, kind, self.height(placed.address))
+            }
             LineRule::Successors => self.next_is_sound(placed) && self.target_is_sound(placed),
             LineRule::Callee => self.call_is_sound(placed),
-            LineRule::StatWrite => stat_is_sound(instruction, kind),
+            LineRule::StatWrite => stat_is_sound(placed.instruction, kind),
         }
     }
 
