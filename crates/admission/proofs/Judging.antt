@@ -34,7 +34,7 @@ pub few_rules : (q : Rule) → rule_number q < 14
 few_rules q = (numbered q).1
 
 ok_err : {d : ℕ} {f : Fault} → ◌≡◌ {A = Answer} (Err f) (Ok d) → ⊥
-ok_err {d} {f} e = let z : ◌≡◌ {A = ℕ} 0 1 = cc in omega arith
+ok_err {d} {f} e = cc
 
 same_ok : {c d : ℕ} → ◌≡◌ {A = Answer} (Ok c) (Ok d) → c ≡ d
 same_ok {c} {d} e = cc
@@ -118,8 +118,8 @@ module _ (P : Program) where
     own (Ok i) e = absurd (by (permitted (flow i)) e)
       where
         by : (b : Bool) → unwrap_or (result_err (unless b Word)) (Broken (Line Word)) ≡ Undefined x → ⊥
-        by true e = let z : ◌≡◌ {A = ℕ} 0 1 = cc in omega arith
-        by false e = let z : ◌≡◌ {A = ℕ} 0 1 = cc in omega arith
+        by true e = cc
+        by false e = cc
 
     whole : (◌≡◌ {A = Answer} (Err (fault (Line Word) P p)) (Err (record { breach = Undefined x; place = p }))) ↔ (decoded (P.word p) ≡ Err x)
     whole = (λ e. own (decoded (P.word p)) (sym says ∙ breach_in e), λ e. ap (λ b. Err (record { breach = b; place = p })) (says ∙ ap said e))

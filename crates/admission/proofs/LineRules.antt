@@ -36,7 +36,7 @@ same_ok : {i j : Instruction} → ◌≡◌ {A = Decoded} (Ok i) (Ok j) → i �
 same_ok {i} {j} e = cc
 
 err_ok : {e : DecodeError} {i : Instruction} → ◌≡◌ {A = Decoded} (Err e) (Ok i) → ⊥
-err_ok {e} {i} h = let z : ◌≡◌ {A = ℕ} 0 1 = cc in omega arith
+err_ok {e} {i} h = cc
 
 -- PUSH and POP alone move the height
 moving : (f : Flow) → (f ≡ push) ⊎ ((f ≡ pop) ⊎ ((f ≡ push → ⊥) × (f ≡ pop → ⊥) × ((h g : ℕ) → moves f h g ≡ eqb g h)))
@@ -55,48 +55,16 @@ defined (Ok i) rule test with_it without = Decides-at _ (test i) (is_ok-unless (
 defined (Err e) rule test with_it without = (λ t. without (λ i h. err_ok h), λ x. refl)
 
 decides_is_stat : (r : Register) → Decides (is_stat r) (r ≡ Stat)
-decides_is_stat r = (gives r, λ e. ap is_stat e)
-  where
-    gives : (r : Register) → is_stat r ≡ true → r ≡ Stat
-    gives I0l e = absurd (false≢true e)
-    gives I0h e = absurd (false≢true e)
-    gives I1l e = absurd (false≢true e)
-    gives I1h e = absurd (false≢true e)
-    gives I2l e = absurd (false≢true e)
-    gives I2h e = absurd (false≢true e)
-    gives I3l e = absurd (false≢true e)
-    gives I3h e = absurd (false≢true e)
-    gives Ipl e = absurd (false≢true e)
-    gives Iph e = absurd (false≢true e)
-    gives Stat e = refl
-    gives R3 e = absurd (false≢true e)
-    gives R2 e = absurd (false≢true e)
-    gives R1 e = absurd (false≢true e)
-    gives R0 e = absurd (false≢true e)
-    gives A e = absurd (false≢true e)
+decides_is_stat r = (λ t. grind arith, λ e. ap is_stat e)
 
 decides_writes_stat : (o : Option Register) → Decides (writes_stat o) (o ≡ Some Stat)
 decides_writes_stat None = (λ e. absurd (false≢true e), λ e. absurd (false≢true (ap writes_stat e)))
 decides_writes_stat (Some r) = (λ e. ap Some ((decides_is_stat r).0 e), λ e. ap writes_stat e)
 
 decides_may_call : (caller callee : Option Kind) → Decides (may_call caller callee) (MayCall caller callee)
-decides_may_call caller callee = (λ e. ⊎_elim quiet open' (or_cases _ _ e), λ h. takes h h.0 (cases_Bool (is caller Quiet || is caller Interrupt)))
-  where
-    bound : Decides (is caller Quiet || is caller Interrupt) ((caller ≡ Some Quiet) ⊎ (caller ≡ Some Interrupt))
-    bound = Decides-or _ _ (decides_is caller Quiet) (decides_is caller Interrupt)
-
-    quiet : is callee Quiet ≡ true → MayCall caller callee
-    quiet e = let q = (decides_is callee Quiet).0 e in (inl q, λ c. q)
-
-    open' : (is callee Open && not (is caller Quiet || is caller Interrupt)) ≡ true → MayCall caller callee
-    open' e =
-        let parts = and_parts (is callee Open) (not (is caller Quiet || is caller Interrupt)) e in
-        (inr ((decides_is callee Open).0 parts.0), λ c. absurd ((Decides-not _ bound).0 parts.1 c))
-
-    takes : MayCall caller callee → (callee ≡ Some Quiet) ⊎ (callee ≡ Some Open) → ((is caller Quiet || is caller Interrupt) ≡ true) ⊎ ((is caller Quiet || is caller Interrupt) ≡ false) → may_call caller callee ≡ true
-    takes h (inl q) b = or_left _ _ ((decides_is callee Quiet).1 q)
-    takes h (inr o) (inl b) = or_left _ _ ((decides_is callee Quiet).1 (h.1 (bound.0 b)))
-    takes h (inr o) (inr b) = or_right (is callee Quiet) _ (and_from (is callee Open) _ ((decides_is callee Open).1 o) (not_from_false _ b))
+decides_may_call caller callee =
+    Decides-like _ (⊎_elim (λ q. (inl q, λ c. q)) (λ o. (inr o.0, λ c. absurd (o.1 c)))) (λ h. ⊎_elim inl (λ o. inr (o, λ c. let e : ◌≡◌ {A = Option Kind} (Some Open) (Some Quiet) = sym o ∙ h.1 c in cc)) h.0)
+    (Decides-or _ _ (decides_is callee Quiet) (Decides-and _ _ (decides_is callee Open) (Decides-not _ (Decides-or _ _ (decides_is caller Quiet) (decides_is caller Interrupt)))))
 
 module _ (P : Program) (a : ℕ) where
   abbrev T : List ℕ
