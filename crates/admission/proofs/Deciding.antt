@@ -1,6 +1,6 @@
 -- Tests that decide statements, put together.
 -- Assumes nothing.
-use Rattle.std.proofs.Common.{◌≡◌, ℕ, ◌≤◌, Bool, true, false, not, ◌||◌, leb, is_some, is_ok, Some, None, Decides, Option, sym, refl, ap, ◌∙◌}
+use Rattle.std.proofs.Common.{arith, ◌≡◌, ℕ, ◌≤◌, Bool, true, false, not, ◌||◌, leb, is_some, is_ok, Some, None, Decides, Option, sym, refl, ap, ◌∙◌}
 use Rattle.std.proofs.lemmas.Bool.{false≢true, leb-true, le-leb}
 use Rattle.std.proofs.lemmas.Bool.Decides.{Decides-eqb}
 use Rattle.std.proofs.lemmas.Option.{none-some}
@@ -18,28 +18,12 @@ pub decides_implies : {A B : Type 0} (a b : Bool) → Decides a A → Decides b 
 decides_implies true b da db = (λ e x. db.0 e, λ h. db.1 (h (da.0 refl)))
 decides_implies false b da db = (λ e x. absurd (false≢true (da.1 x)), λ h. refl)
 
--- a kind that is named by a code
-kind_back : (k : Kind) → kind_of (kind_code k) ≡ Some k
-kind_back Background = refl
-kind_back Quiet = refl
-kind_back Interrupt = refl
-kind_back Open = refl
-
 pub decides_is : (o : Option Kind) (k : Kind) → Decides (is o k) (o ≡ Some k)
-decides_is None k = (λ e. absurd (false≢true e), λ e. absurd (none-some k e))
-decides_is (Some j) k = (
-  λ e. sym (kind_back j) ∙ ap kind_of ((Decides-eqb (kind_code j) (kind_code k)).0 e) ∙ kind_back k,
-  λ e. (Decides-eqb (kind_code j) (kind_code k)).1 (ap code e),
-)
-  where
-    code : Option Kind → ℕ
-    code None = 0
-    code (Some i) = kind_code i
+decides_is o k = (λ e. grind arith, λ e. grind arith)
 
 pub decides_is_some : {X : Type 0} (o : Option X) → Decides (is_some o) ((x : X) × (o ≡ Some x))
 decides_is_some None = (λ e. absurd (false≢true e), λ h. absurd (none-some h.0 h.1))
 decides_is_some (Some x) = (λ e. (x, refl), λ h. refl)
 
 pub is_ok-unless : (b : Bool) (rule : LineRule) → is_ok (unless b rule) ≡ b
-is_ok-unless true rule = refl
-is_ok-unless false rule = refl
+is_ok-unless b rule = grind arith

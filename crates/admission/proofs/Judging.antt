@@ -41,8 +41,7 @@ same_ok {c} {d} e = cc
 
 -- the rule that a line's breach breaks
 of_unless : (b : Bool) (rule : LineRule) → broken_rule (unwrap_or (result_err (unless b rule)) (Broken (Line rule))) ≡ Line rule
-of_unless true rule = refl
-of_unless false rule = refl
+of_unless b rule = grind arith
 
 of_word : (d : Result Instruction DecodeError) → broken_rule (unwrap_or (result_err (word_checked d)) (Broken (Line Word))) ≡ Line Word
 of_word (Ok i) = of_unless (permitted (flow i)) Word

@@ -40,14 +40,7 @@ err_ok {e} {i} h = cc
 
 -- PUSH and POP alone move the height
 moving : (f : Flow) → (f ≡ push) ⊎ ((f ≡ pop) ⊎ ((f ≡ push → ⊥) × (f ≡ pop → ⊥) × ((h g : ℕ) → moves f h g ≡ eqb g h)))
-moving plain = inr (inr (λ e. cc, λ e. cc, λ h g. refl))
-moving push = inl refl
-moving pop = inr (inl refl)
-moving ret = inr (inr (λ e. cc, λ e. cc, λ h g. refl))
-moving reti = inr (inr (λ e. cc, λ e. cc, λ h g. refl))
-moving (jump on t) = inr (inr (λ e. cc, λ e. cc, λ h g. refl))
-moving (call t) = inr (inr (λ e. cc, λ e. cc, λ h g. refl))
-moving calls = inr (inr (λ e. cc, λ e. cc, λ h g. refl))
+moving f = grind arith
 
 -- a rule that speaks of the instruction is decided by a test of it
 defined : (d : Decoded) (rule : LineRule) (test : Instruction → Bool) {X : Type 0} → ((i : Instruction) → d ≡ Ok i → Decides (test i) X) → (((i : Instruction) → d ≡ Ok i → ⊥) → X) → Decides (is_ok (if_defined d rule test)) X
@@ -58,8 +51,7 @@ decides_is_stat : (r : Register) → Decides (is_stat r) (r ≡ Stat)
 decides_is_stat r = (λ t. grind arith, λ e. ap is_stat e)
 
 decides_writes_stat : (o : Option Register) → Decides (writes_stat o) (o ≡ Some Stat)
-decides_writes_stat None = (λ e. absurd (false≢true e), λ e. absurd (false≢true (ap writes_stat e)))
-decides_writes_stat (Some r) = (λ e. ap Some ((decides_is_stat r).0 e), λ e. ap writes_stat e)
+decides_writes_stat o = (λ e. grind arith, λ e. ap writes_stat e)
 
 decides_may_call : (caller callee : Option Kind) → Decides (may_call caller callee) (MayCall caller callee)
 decides_may_call caller callee =

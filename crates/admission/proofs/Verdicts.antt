@@ -36,19 +36,7 @@ abbrev Numbered : Rule → Type 0
 Numbered rule = (1 ≤ rule_number rule) × (rule_number rule < 14) × (get_or rules (rule_number rule - 1) Depth ≡ rule)
 
 pub numbered : (rule : Rule) → Numbered rule
-numbered Description = (omega arith, omega arith, refl)
-numbered Sizes = (omega arith, omega arith, refl)
-numbered Chain = (omega arith, omega arith, refl)
-numbered (Record Kinds) = (omega arith, omega arith, refl)
-numbered Entries = (omega arith, omega arith, refl)
-numbered (Record EntryLines) = (omega arith, omega arith, refl)
-numbered (Line Owner) = (omega arith, omega arith, refl)
-numbered (Line Word) = (omega arith, omega arith, refl)
-numbered (Line StackUse) = (omega arith, omega arith, refl)
-numbered (Line Successors) = (omega arith, omega arith, refl)
-numbered (Line Callee) = (omega arith, omega arith, refl)
-numbered (Line StatWrite) = (omega arith, omega arith, refl)
-numbered Depth = (omega arith, omega arith, refl)
+numbered rule = (grind arith, grind arith, grind arith)
 
 pub same_rule : (q r : Rule) → rule_number q ≡ rule_number r → q ≡ r
 same_rule q r e = sym (numbered q).2 ∙ ap (λ n. get_or rules (n - 1) Depth) e ∙ (numbered r).2
