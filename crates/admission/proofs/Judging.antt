@@ -44,24 +44,17 @@ of_unless : (b : Bool) (rule : LineRule) → broken_rule (unwrap_or (result_err 
 of_unless b rule = grind arith
 
 of_word : (d : Result Instruction DecodeError) → broken_rule (unwrap_or (result_err (word_checked d)) (Broken (Line Word))) ≡ Line Word
-of_word (Ok i) = of_unless (permitted (flow i)) Word
-of_word (Err e) = refl
+of_word d = grind arith
 
 of_defined : (d : Result Instruction DecodeError) (rule : LineRule) (test : Instruction → Bool) → broken_rule (unwrap_or (result_err (if_defined d rule test)) (Broken (Line rule))) ≡ Line rule
-of_defined (Ok i) rule test = of_unless (test i) rule
-of_defined (Err e) rule test = refl
+of_defined d rule test = grind arith
 
 module _ (P : Program) where
   abbrev L : List ℕ
   L = P.lines
 
   of_owned : (rule : LineRule) (p : ℕ) → broken_rule (unwrap_or (result_err (owned_checked rule P.count P.table L (P.word p) p)) (Broken (Line rule))) ≡ Line rule
-  of_owned Owner p = of_unless _ Owner
-  of_owned Word p = of_word (decoded (P.word p))
-  of_owned StackUse p = of_defined (decoded (P.word p)) StackUse _
-  of_owned Successors p = of_defined (decoded (P.word p)) Successors _
-  of_owned Callee p = of_defined (decoded (P.word p)) Callee _
-  of_owned StatWrite p = of_defined (decoded (P.word p)) StatWrite _
+  of_owned rule p = grind (arith, of_word, of_defined)
 
   of_line : (rule : LineRule) (p : ℕ) → broken_rule (line_breach rule P.count P.table L (P.word p) p) ≡ Line rule
   of_line rule p = by (eqb (line L p) 0)
@@ -71,13 +64,7 @@ module _ (P : Program) where
       by false = of_owned rule p
 
   of_breach : (rule : Rule) (p : ℕ) → broken_rule (breach rule P p) ≡ rule
-  of_breach Description p = refl
-  of_breach Sizes p = refl
-  of_breach Chain p = refl
-  of_breach (Record rule) p = refl
-  of_breach Entries p = refl
-  of_breach (Line rule) p = of_line rule p
-  of_breach Depth p = refl
+  of_breach rule p = grind (arith, of_line)
 
   logged : (rule : Rule) (p : ℕ) → refusal (Err (fault rule P p)) ≡ Some (rule_number rule, p)
   logged rule p = ap (λ r. Some (rule_number r, p)) (of_breach rule p)

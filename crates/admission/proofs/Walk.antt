@@ -3,6 +3,7 @@
 use Rattle.std.proofs.Common.{◌≡◌, ℕ, zero, suc, ◌+◌, ◌<◌, ◌≤◌, Bool, true, false, not, ◌&&◌, eqb, leb, ◌⊎◌, List, length, get_or, set, replicate, Some, None, sym, refl, ap, ◌∙◌, subst, inl, inr, ⊎_elim, arith}
 use Rattle.std.proofs.lemmas.List.{length-set, length-replicate, get_or-replicate, get_or-set_same, get_or-set_other}
 use Rattle.std.proofs.lemmas.Bool.{false_from_ne_true, and_from, and_left, and_right, or_left, or_right, or_from, cases_eq, cases_order, not_from_true, not_from_false, le-leb, lt-leb, ne_eqb}
+use Rattle.std.proofs.lemmas.Bool.Decides.{nat_tests}
 use Rattle.platform.proofs.Search.{none_from, some_from}
 use Rattle.admission.specs.Chain.{OnChain, head, link, chained, on_chain, linked, link_sound, broken_link}
 use Rattle.admission.specs.Tables.{records, next}
@@ -63,14 +64,7 @@ module _ (T : List ℕ) where
         away q small other = get_or-set_other marks m q true false other ∙ w.marked q small ∙ by (cases_order q k)
           where
             by : (q ≡ k) ⊎ ((q < k) ⊎ (k < q)) → (leb q k && chained T q) ≡ (leb q m && chained T q)
-            by (inl same) = ap (λ b. b && chained T q) (le-leb q k (omega arith) ∙ sym (le-leb q m (omega arith)))
-            by (inr (inl less)) = ap (λ b. b && chained T q) (le-leb q k (omega arith) ∙ sym (le-leb q m (omega arith)))
-            by (inr (inr more)) = and_left (leb q k) (chained T q) (lt-leb q k more) ∙ sym (past (cases_order q m))
-              where
-                past : (q ≡ m) ⊎ ((q < m) ⊎ (m < q)) → (leb q m && chained T q) ≡ false
-                past (inl same) = absurd (other same)
-                past (inr (inl less)) = and_right (leb q m) (chained T q) (between q more less)
-                past (inr (inr beyond)) = and_left (leb q m) (chained T q) (lt-leb q m beyond)
+            by c = grind (arith, nat_tests, between)
 
     pub breaks : linked T k ≡ false → broken_link T ≡ Some k
     breaks e =
@@ -92,6 +86,4 @@ module _ (T : List ℕ) where
       all_marked q small = w.marked q small ∙ by (cases_order q k)
         where
           by : (q ≡ k) ⊎ ((q < k) ⊎ (k < q)) → (leb q k && chained T q) ≡ chained T q
-          by (inl same) = ap (λ b. b && chained T q) (le-leb q k (omega arith))
-          by (inr (inl less)) = ap (λ b. b && chained T q) (le-leb q k (omega arith))
-          by (inr (inr more)) = and_left (leb q k) (chained T q) (lt-leb q k more) ∙ sym (beyond q more)
+          by c = grind (arith, nat_tests, beyond)
