@@ -2,7 +2,7 @@
 -- Assumes nothing.
 use Rattle.std.proofs.Common.{◌≡◌, ℕ, ◌+◌, ◌*◌, ◌<◌, ◌≤◌, Bool, true, false, cond, not, ◌&&◌, ◌||◌, eqb, ◌⊎◌, List, is_ok, Some, None, Ok, Err, Decides, Option, Result, sym, refl, ap, ◌∙◌, subst, inl, inr, ⊎_elim, arith}
 use Rattle.std.proofs.lemmas.Bool.{false≢true, and_parts, and_from, or_cases, or_left, or_right, not_from_false, cases_Bool, cond-false, cond-true, eq-eqb, ne_eqb, cases_eq}
-use Rattle.std.proofs.lemmas.Bool.Decides.{Decides-at, Decides-eqb, Decides-ltb, Decides-and, Decides-or, Decides-not, Decides-like}
+use Rattle.std.proofs.lemmas.Bool.Decides.{nat_tests, Decides-at, Decides-eqb, Decides-ltb, Decides-and, Decides-or, Decides-not, Decides-like}
 use Rattle.words.specs.Decoding.{decoded}
 use Rattle.words.specs.declared.conditions.Condition.{Condition}
 use Rattle.words.specs.declared.conditions.Condition.TheVariants.{CarryClear, OverflowClear, ZeroClear, Always, CarrySet, OverflowSet, ZeroSet, Event}
@@ -99,16 +99,7 @@ module _ (P : Program) (a : ℕ) where
       )
         where
           allowed : (h : Permitted P a) → h.instruction ≡ i → (f : Flow) → Shape f i → permitted f ≡ true
-          allowed h same plain s = refl
-          allowed h same push s = refl
-          allowed h same pop s = refl
-          allowed h same ret s = refl
-          allowed h same reti s = refl
-          allowed h same (jump cc (Address t)) s = refl
-          allowed h same (jump cc Ip) s = absurd (h.no_jump_ip cc (same ∙ s))
-          allowed h same (call (Address t)) s = refl
-          allowed h same (call Ip) s = absurd (h.no_call_ip (same ∙ s))
-          allowed h same calls s = absurd (h.no_calls s.0 (same ∙ s.1))
+          allowed h same f s = grind (arith, h.no_calls, h.no_call_ip, h.no_jump_ip)
 
   module _ (i : Instruction) (at : At P a i) where
     -- the instruction at a is i, and no other
@@ -138,14 +129,7 @@ module _ (P : Program) (a : ℕ) where
         }
 
         takes : (f : Flow) → Shape f i → SoundStack P a → stack_sound f (kind_at P a) (height_at P a) ≡ true
-        takes plain s x = refl
-        takes push s x = refl
-        takes pop s x = (decides_leb 1 (height_at P a)).1 (x.pop (there s))
-        takes ret s x = returning.1 (x.ret (there s))
-        takes reti s x = returningi.1 (x.reti (there s))
-        takes (jump cc t) s x = refl
-        takes (call t) s x = refl
-        takes calls s x = refl
+        takes f s x = grind (arith, nat_tests, there, x.pop, x.ret, x.reti, returning.1, returningi.1)
 
     decides_goes_on : Decides (goes_on (flow i)) (GoesOn P a)
     decides_goes_on = (gives, takes (flow i) (shape i))
@@ -160,21 +144,7 @@ module _ (P : Program) (a : ℕ) where
         }
 
         takes : (f : Flow) → Shape f i → GoesOn P a → goes_on f ≡ true
-        takes plain s x = refl
-        takes push s x = refl
-        takes pop s x = refl
-        takes ret s x = absurd (x.no_ret (there s))
-        takes reti s x = absurd (x.no_reti (there s))
-        takes (jump CarryClear t) s x = refl
-        takes (jump OverflowClear t) s x = refl
-        takes (jump ZeroClear t) s x = refl
-        takes (jump Always t) s x = absurd (x.no_jump t (there s))
-        takes (jump CarrySet t) s x = refl
-        takes (jump OverflowSet t) s x = refl
-        takes (jump ZeroSet t) s x = refl
-        takes (jump Event t) s x = refl
-        takes (call t) s x = refl
-        takes calls s x = refl
+        takes f s x = grind (arith, there, x.no_jump, x.no_ret, x.no_reti)
 
     no_both : {f : Flow} → f ≡ push → f ≡ pop → ⊥
     no_both p q = let e : push ≡ pop = sym p ∙ q in cc

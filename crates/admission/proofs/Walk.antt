@@ -57,14 +57,10 @@ module _ (T : List ℕ) where
         at : (q : ℕ) → q < 256 → q ≡ m → get_or (set marks m true) q false ≡ (leb q m && chained T q)
         at q small same =
             let long = w.long in
-            subst (λ x. get_or (set marks m true) x false ≡ (leb x m && chained T x)) (sym same)
-            (get_or-set_same marks m true false (omega arith) ∙ sym (and_from (leb m m) (chained T m) (le-leb m m (omega arith)) ((decides_chained T m).1 (link w.on e lt le, omega arith))))
+            grind (arith, nat_tests, get_or-set_same marks m true false (omega arith), (decides_chained T m).1 (link w.on e lt le, omega arith))
 
         away : (q : ℕ) → q < 256 → (q ≡ m → ⊥) → get_or (set marks m true) q false ≡ (leb q m && chained T q)
-        away q small other = get_or-set_other marks m q true false other ∙ w.marked q small ∙ by (cases_order q k)
-          where
-            by : (q ≡ k) ⊎ ((q < k) ⊎ (k < q)) → (leb q k && chained T q) ≡ (leb q m && chained T q)
-            by c = grind (arith, nat_tests, between)
+        away q small other = get_or-set_other marks m q true false other ∙ w.marked q small ∙ grind (arith, nat_tests, between)
 
     pub breaks : linked T k ≡ false → broken_link T ≡ Some k
     breaks e =
@@ -83,7 +79,4 @@ module _ (T : List ℕ) where
           each q = ⊎_elim (λ here. subst (λ x. link_sound T x ≡ true) (sym here) (on_link k ((decides_linked T k).1 (inl (e, λ z. omega arith))))) (⊎_elim (λ less. w.before q less) (λ more. off q (not_on q (omega arith) (beyond q more)))) (cases_order q k)
 
       pub all_marked : (q : ℕ) → q < 256 → get_or marks q false ≡ chained T q
-      all_marked q small = w.marked q small ∙ by (cases_order q k)
-        where
-          by : (q ≡ k) ⊎ ((q < k) ⊎ (k < q)) → (leb q k && chained T q) ≡ chained T q
-          by c = grind (arith, nat_tests, beyond)
+      all_marked q small = w.marked q small ∙ grind (arith, nat_tests, beyond)
