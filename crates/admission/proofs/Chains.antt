@@ -1,11 +1,9 @@
 -- Going up through the records finds just those that the chain reaches.
 -- Assumes nothing.
-use Rattle.std.proofs.Common.{◌≡◌, ℕ, zero, suc, ◌<◌, ◌≤◌, true, false, eqb, ltb, ◌⊎◌, List, Decides, sym, refl, ◌∙◌, subst, inl, inr, ⊎_elim, arith}
+use Rattle.std.proofs.Common.{rules, ◌≡◌, ℕ, zero, suc, ◌<◌, ◌≤◌, true, false, eqb, ltb, ◌⊎◌, List, Decides, sym, refl, ◌∙◌, subst, inl, inr, ⊎_elim, arith}
 use Rattle.std.proofs.lemmas.Bool.{false≢true, and_parts, and_from, and_right, or_cases, or_left, or_right, cases_eq, ltb-true, lt-ltb, eqb-true, eq-eqb, ne_eqb, cond-true, cond-false}
-use Rattle.std.proofs.lemmas.Bool.Decides.{Decides-eqb, Decides-ltb, Decides-and, Decides-or, Decides-not}
 use Rattle.admission.specs.Chain.{OnChain, head, link, Chained, awaited, chained, on_chain, linked}
 use Rattle.admission.specs.Tables.{records, next}
-use Rattle.admission.proofs.Deciding.{decides_leb}
 
 module _ (T : List ℕ) where
   -- one record further on, the awaited index is the same unless that record is the one
@@ -85,4 +83,4 @@ module _ (T : List ℕ) where
       not_chained m q (stays k m q (on_awaited on ∙ e) (omega arith) (λ x more le. other x more (omega arith))) (other (suc q) lt (omega arith))
 
   pub decides_linked : (k : ℕ) → Decides (linked T k) (((next T k ≡ 0) × (k ≡ 0 → ⊥)) ⊎ ((k < next T k) × (next T k ≤ records T)))
-  decides_linked k = Decides-or _ _ (Decides-and _ _ (Decides-eqb (next T k) 0) (Decides-not _ (Decides-eqb k 0))) (Decides-and _ _ (Decides-ltb k (next T k)) (decides_leb (next T k) (records T)))
+  decides_linked k = search rules

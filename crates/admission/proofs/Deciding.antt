@@ -1,14 +1,11 @@
 -- Tests that decide statements, put together.
 -- Assumes nothing.
-use Rattle.std.proofs.Common.{arith, ◌≡◌, ℕ, ◌≤◌, Bool, true, false, not, ◌||◌, leb, is_some, is_ok, Some, None, Decides, Option, sym, refl, ap, ◌∙◌}
+use Rattle.std.proofs.Common.{arith, ◌≡◌, ℕ, ◌≤◌, Bool, true, false, not, ◌||◌, leb, is_some, is_ok, Some, None, Decides, Option, refl}
 use Rattle.std.proofs.lemmas.Bool.{false≢true, leb-true, le-leb}
-use Rattle.std.proofs.lemmas.Bool.Decides.{Decides-eqb}
 use Rattle.std.proofs.lemmas.Option.{none-some}
-use Rattle.admission.specs.Roles.{kind_code, is}
-use Rattle.admission.specs.Tables.{kind_of}
+use Rattle.admission.specs.Roles.{is}
 use Rattle.admission.specs.Tests.{unless}
 use Rattle.admission.specs.declared.kinds.Kind.{Kind}
-use Rattle.admission.specs.declared.kinds.Kind.TheVariants.{Background, Quiet, Interrupt, Open}
 use Rattle.admission.specs.declared.rules.LineRule.{LineRule}
 
 pub decides_leb : (a b : ℕ) → Decides (leb a b) (a ≤ b)

@@ -21,9 +21,9 @@ use Rattle.admission.specs.declared.faults.Breach.{Breach}
 use Rattle.admission.specs.declared.faults.Breach.TheVariants.{Broken, Undefined}
 use Rattle.admission.specs.declared.faults.Fault.{Fault}
 use Rattle.admission.specs.declared.rules.LineRule.{LineRule}
-use Rattle.admission.specs.declared.rules.LineRule.TheVariants.{Owner, Word, StackUse, Successors, Callee, StatWrite}
+use Rattle.admission.specs.declared.rules.LineRule.TheVariants.{Word}
 use Rattle.admission.specs.declared.rules.Rule.{Rule}
-use Rattle.admission.specs.declared.rules.Rule.TheVariants.{Description, Sizes, Chain, Record, Entries, Line, Depth}
+use Rattle.admission.specs.declared.rules.Rule.TheVariants.{Description, Sizes, Chain, Entries, Line, Depth}
 use Rattle.admission.proofs.Assigned.{roles_filled, entered_roles}
 use Rattle.admission.proofs.Verdicts.{numbered, same_rule, Outcome, outcome, is_deepest, one_depth}
 

@@ -1,20 +1,20 @@
 -- The tests of the rules of lines decide what the rules say.
 -- Assumes nothing.
-use Rattle.std.proofs.Common.{◌≡◌, ℕ, ◌+◌, ◌*◌, ◌<◌, ◌≤◌, Bool, true, false, cond, not, ◌&&◌, ◌||◌, eqb, ◌⊎◌, List, is_ok, Some, None, Ok, Err, Decides, Option, Result, sym, refl, ap, ◌∙◌, subst, inl, inr, ⊎_elim, arith}
-use Rattle.std.proofs.lemmas.Bool.{false≢true, and_parts, and_from, or_cases, or_left, or_right, not_from_false, cases_Bool, cond-false, cond-true, eq-eqb, ne_eqb, cases_eq}
+use Rattle.std.proofs.Common.{◌≡◌, ℕ, ◌+◌, ◌*◌, ◌<◌, ◌≤◌, Bool, true, cond, ◌&&◌, ◌||◌, eqb, ◌⊎◌, List, is_ok, Some, Ok, Err, Decides, Option, Result, sym, refl, ap, ◌∙◌, subst, inl, inr, ⊎_elim, arith}
+use Rattle.std.proofs.lemmas.Bool.{false≢true, cond-false, cond-true, eq-eqb, ne_eqb, cases_eq}
 use Rattle.std.proofs.lemmas.Bool.Decides.{nat_tests, Decides-at, Decides-eqb, Decides-ltb, Decides-and, Decides-or, Decides-not, Decides-like}
 use Rattle.words.specs.Decoding.{decoded}
 use Rattle.words.specs.declared.conditions.Condition.{Condition}
-use Rattle.words.specs.declared.conditions.Condition.TheVariants.{CarryClear, OverflowClear, ZeroClear, Always, CarrySet, OverflowSet, ZeroSet, Event}
+use Rattle.words.specs.declared.conditions.Condition.TheVariants.{Always}
 use Rattle.words.specs.declared.errors.DecodeError.{DecodeError}
 use Rattle.words.specs.declared.instructions.Instruction.{Instruction}
 use Rattle.words.specs.declared.instructions.Instruction.TheVariants.{Push, Pop, Ret, Reti, Jump, Call}
 use Rattle.words.specs.declared.instructions.Target.{Target}
-use Rattle.words.specs.declared.instructions.Target.TheVariants.{Address, Ip}
+use Rattle.words.specs.declared.instructions.Target.TheVariants.{Address}
 use Rattle.words.specs.declared.registers.Register.{Register}
-use Rattle.words.specs.declared.registers.Register.TheVariants.{I0l, I0h, I1l, I1h, I2l, I2h, I3l, I3h, Ipl, Iph, Stat, R3, R2, R1, R0, A}
+use Rattle.words.specs.declared.registers.Register.TheVariants.{Stat}
 use Rattle.admission.specs.Chain.{Chained}
-use Rattle.admission.specs.Instructions.{Flow, plain, push, pop, ret, reti, jump, call, calls, flow, permitted, goes_on, jump_target, call_target, destination}
+use Rattle.admission.specs.Instructions.{Flow, push, pop, jump, call, flow, permitted, goes_on, jump_target, call_target, destination}
 use Rattle.admission.specs.Program.{Program}
 use Rattle.admission.specs.Roles.{is}
 use Rattle.admission.specs.Rules.{Owned, SoundOwner, At, Permitted, SoundStack, Leads, Leaves, GoesOn, SoundSuccessors, MayCall, SoundCall, WritesStat, EntryLine, kind_at, height_at, owner_of}
@@ -199,19 +199,12 @@ module _ (P : Program) (a : ℕ) where
             (x.0, x.1.0, x.1.1.other (no_push q) (no_pop q))
 
         takes : (f : Flow) → flow i ≡ f → Shape f i → ((cc : Condition) (t : ℕ) → At P a (Jump cc (Address t)) → Leads P a t (height_at P a)) → target_sound P.count L f a ≡ true
-        takes plain e s x = refl
-        takes push e s x = refl
-        takes pop e s x = refl
-        takes ret e s x = refl
-        takes reti e s x = refl
         takes (jump cc (Address t)) e s x =
             let q = there s in
             let to = x cc t q in
             subst (λ f. leads P.count L f a t ≡ true) e
             ((decides_leads t).1 (to.0, (to.1, record { push = λ p. absurd (no_push q p); pop = λ p. absurd (no_pop q p); other = λ np nq. to.2 })))
-        takes (jump cc Ip) e s x = refl
-        takes (call to) e s x = refl
-        takes calls e s x = refl
+        takes f e s x = grind arith
 
     decides_successors : Decides (next_sound P.count L (flow i) a && target_sound P.count L (flow i) a) (SoundSuccessors P a)
     decides_successors = Decides-like _ (λ h. record { next = h.0; target = h.1 }) (λ h. (h.next, h.target)) (Decides-and _ _ decides_next decides_target)
@@ -243,15 +236,8 @@ module _ (P : Program) (a : ℕ) where
             subst (λ j. callable T L a t j ≡ true) same ((decides_callable t k).1 ((x.reached, x.entered), (x.kinds, x.words)))
 
         takes : (f : Flow) → Shape f i → ((t : ℕ) → At P a (Call (Address t)) → SoundCall P a t) → call_sound T L f a ≡ true
-        takes plain s x = refl
-        takes push s x = refl
-        takes pop s x = refl
-        takes ret s x = refl
-        takes reti s x = refl
-        takes (jump cc to) s x = refl
         takes (call (Address t)) s x = named t (x t (there s))
-        takes (call Ip) s x = refl
-        takes calls s x = refl
+        takes f s x = grind arith
 
   module _ (lt : a < P.count) where
     abbrev Sound : LineRule → Bool

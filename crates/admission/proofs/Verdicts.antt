@@ -1,6 +1,6 @@
 -- What the rules are tested by decides what they say, and the first one that is broken is found.
 -- Assumes nothing.
-use Rattle.std.proofs.Common.{◌≡◌, ℕ, zero, suc, ◌+◌, ◌*◌, ◌%◌, ◌<◌, ◌≤◌, ◌-◌, max, Bool, true, false, not, ◌&&◌, eqb, leb, get_or, ◌⊎◌, List, [], ◌∷◌, length, Some, None, Err, Decides, Option, Result, sym, refl, ap, ◌∙◌, subst, inl, inr, ⊎_elim, arith, rules as steps}
+use Rattle.std.proofs.Common.{◌≡◌, ℕ, ◌+◌, ◌*◌, ◌<◌, ◌≤◌, ◌-◌, max, Bool, true, false, not, ◌&&◌, eqb, leb, get_or, ◌⊎◌, List, [], ◌∷◌, Some, None, Err, Decides, Option, Result, sym, refl, ap, ◌∙◌, subst, inl, inr, ⊎_elim, arith, rules as steps}
 use Rattle.std.proofs.lemmas.Bool.{false≢true, and_parts, eqb-true, not-true, not-false, cases_lt, cases_eq}
 use Rattle.std.proofs.lemmas.Bool.Decides.{Decides-at, Decides-eqb, Decides-ltb, Decides-and, Decides-like}
 use Rattle.platform.specs.Description.{in_limits, InLimits}
@@ -24,7 +24,7 @@ use Rattle.admission.specs.declared.rules.RecordRule.TheVariants.{Kinds, EntryLi
 use Rattle.admission.specs.declared.rules.Rule.{Rule}
 use Rattle.admission.specs.declared.rules.Rule.TheVariants.{Description, Sizes, Chain, Record, Entries, Line, Depth}
 use Rattle.admission.proofs.Assigned.{Filled, roles_filled, filled_entered, entered_roles}
-use Rattle.admission.proofs.Chains.{decides_chained, decides_on_chain, decides_linked, low_on}
+use Rattle.admission.proofs.Chains.{decides_chained, decides_on_chain, low_on}
 use Rattle.admission.proofs.Deciding.{decides_leb, decides_implies, decides_is_some}
 use Rattle.admission.proofs.LineRules.{owner_decided, word_decided, stack_decided, successors_decided, call_decided, stat_decided}
 
@@ -59,33 +59,17 @@ module _ (P : Program) where
   placeless b d p = (λ lt. Decides-like b (λ x z. x) (λ f. f (omega arith)) d, λ some z. absurd (omega arith))
 
   sizes_decided : Decides (sized P.count T P.lines) (Sized P)
-  sizes_decided =
-      Decides-like _ (λ h. let odd = h.0.0 in record { count = records T; some = h.0.1.0; few = h.0.1.1; numbers = omega arith; lines = h.1 })
-      (λ h.
-      let all = h.numbers in
-      let same : h.count ≡ records T = omega arith in
-      let low = h.some in
-      let high = h.few in
-      ((omega arith, (omega arith, omega arith)), h.lines))
-      (Decides-and _ _ (Decides-and _ _ (Decides-eqb (length T % 4) 1) (Decides-and _ _ (decides_leb 1 (records T)) (decides_leb (records T) 255))) (Decides-eqb (length P.lines) P.count))
+  sizes_decided = search steps
 
   linked_decided : (k : ℕ) → Decides (linked T k) (Linked P k)
-  linked_decided k =
-      Decides-like _ (⊎_elim (λ h. inl (some k h.1, h.0)) inr) (⊎_elim (λ h. inl (h.1, λ z. let low = h.0 in omega arith)) inr)
-      (decides_linked T k)
-    where
-      some : (k : ℕ) → (k ≡ 0 → ⊥) → 1 ≤ k
-      some k other = omega arith
+  linked_decided k = search steps
 
   far : {X : Type 0} {p : ℕ} → records T + 1 ≤ p → OnChain T p → X
   far ge on = let low = low_on T on in absurd (omega arith)
 
   module _ (r : Roles) (f : Filled P r) where
     at_most : (i : ℕ) → i < 3 → need T (level r i) ≤ max (need T (level r 0)) (max (need T (level r 1)) (need T (level r 2)))
-    at_most zero lt = omega arith
-    at_most (suc zero) lt = omega arith
-    at_most (suc (suc zero)) lt = omega arith
-    at_most (suc (suc (suc i))) lt = absurd (omega arith)
+    at_most i lt = grind arith
 
     -- every interrupt routine is one of the three
     largest : (k : ℕ) → Routine P Interrupt k → need T k ≤ max (need T (level r 0)) (max (need T (level r 1)) (need T (level r 2)))

@@ -1,8 +1,8 @@
 -- What the walk along the chain keeps true, and what it finds.
 -- Assumes nothing.
-use Rattle.std.proofs.Common.{◌≡◌, ℕ, zero, suc, ◌+◌, ◌<◌, ◌≤◌, Bool, true, false, not, ◌&&◌, eqb, leb, ◌⊎◌, List, length, get_or, set, replicate, Some, None, sym, refl, ap, ◌∙◌, subst, inl, inr, ⊎_elim, arith}
+use Rattle.std.proofs.Common.{◌≡◌, ℕ, ◌+◌, ◌<◌, ◌≤◌, Bool, true, false, not, ◌&&◌, eqb, leb, ◌⊎◌, List, length, get_or, set, replicate, Some, None, sym, refl, ◌∙◌, subst, inl, inr, ⊎_elim, arith}
 use Rattle.std.proofs.lemmas.List.{length-set, length-replicate, get_or-replicate, get_or-set_same, get_or-set_other}
-use Rattle.std.proofs.lemmas.Bool.{false_from_ne_true, and_from, and_left, and_right, or_left, or_right, or_from, cases_eq, cases_order, not_from_true, not_from_false, le-leb, lt-leb, ne_eqb}
+use Rattle.std.proofs.lemmas.Bool.{false_from_ne_true, or_left, or_right, or_from, cases_eq, cases_order, not_from_true, not_from_false, ne_eqb}
 use Rattle.std.proofs.lemmas.Bool.Decides.{nat_tests}
 use Rattle.platform.proofs.Search.{none_from, some_from}
 use Rattle.admission.specs.Chain.{OnChain, head, link, chained, on_chain, linked, link_sound, broken_link}
@@ -39,8 +39,7 @@ module _ (T : List ℕ) where
   }
     where
       none : (q : ℕ) → (leb q 0 && chained T q) ≡ false
-      none zero = refl
-      none (suc q) = and_left (leb (suc q) 0) (chained T (suc q)) (lt-leb (suc q) 0 (omega arith))
+      none q = grind (arith, nat_tests)
 
   module _ (few : records T ≤ 255) (marks : List Bool) (k : ℕ) (w : Walked T marks k) where
     pub goes_on_lem : (m : ℕ) → next T k ≡ m → k < m → m ≤ records T → Walked T (set marks m true) m
