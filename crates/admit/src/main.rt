@@ -1,7 +1,7 @@
 // Judges the job on standard input, and writes one line.
 #![tactic(auto)]
 
-use job::{LONGEST, judge};
+use job::{LONGEST, judge, verdict_line};
 use std::io::{Read, Write};
 
 fn run(rt: &HostRuntime) -> anyhow::Result<()> {
@@ -9,8 +9,7 @@ fn run(rt: &HostRuntime) -> anyhow::Result<()> {
     let mut job = Vec::new(heap);
     // one byte more tells a job that is too long
     rt.stdin().take(LONGEST as u64 + 1).read_to_end(&mut job)?;
-    let verdict = judge(heap, job.as_slice())?;
-    let line = verdict.line(heap)?;
+    let line = verdict_line(judge(job.as_slice()), heap)?;
     let mut out = rt.stdout();
     out.write_all(line.as_bytes())?;
     out.flush()?;

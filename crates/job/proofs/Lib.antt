@@ -1,5 +1,5 @@
 pub mod Nine
-pub mod Parts
+pub mod Pairs
 pub mod Saying
 pub mod Sizes
 pub mod Written

@@ -1,7 +1,6 @@
 -- What is said of a job follows from what is said of its length, of its words, and of the program that they mean.
 -- Assumes nothing.
 use Rattle.std.proofs.Common.{◌≡◌, ℕ, ◌<◌, ◌≤◌, Bool, true, false, cond, List, Some, None, Ok, Err, Option, Result, sym, refl, ap, ◌∙◌, subst, arith}
-use borrow.Author.Tests.{clash}
 use Rattle.platform.specs.Refusals.{store_number}
 use Rattle.platform.specs.Stores.{bytes_tested, store_refusal, Narrow, Tests, InRange, InRangeOf3}
 use Rattle.platform.specs.declared.errors.StoreError.{StoreError}
@@ -14,9 +13,8 @@ use Rattle.admission.specs.declared.faults.Fault.{Fault}
 use Rattle.admission.proofs.Judging.{few_rules, answers}
 use Rattle.job.specs.Jobs.{word_count, word_bytes, well_sized, program_of, ruled, stored, verdict_of}
 use Rattle.job.specs.Laws.{verdict_refusal, WellSized, word, Says}
+use Rattle.job.specs.declared.verdicts.Refusal.{Refusal}
 use Rattle.job.specs.declared.verdicts.Refusal.TheVariants.{Length, Store}
-use Rattle.job.specs.declared.verdicts.Verdict.{Verdict}
-use Rattle.job.specs.declared.verdicts.Verdict.TheVariants.{Admitted, Refused}
 use Rattle.job.proofs.Sizes.{decides_sized, long, counted}
 use Rattle.job.proofs.Written.{reads_back}
 
@@ -24,7 +22,7 @@ abbrev number : Option (ℕ × ℕ) → ℕ
 number None = 0
 number (Some log) = log.0
 
-admitted_only : {d : ℕ} (v : Verdict) → v ≡ Admitted d → number (verdict_refusal v) ≡ 0
+admitted_only : {d : ℕ} (v : Result ℕ Refusal) → v ≡ Ok d → number (verdict_refusal v) ≡ 0
 admitted_only v e = ap (λ x. number (verdict_refusal x)) e
 
 late : (e : StoreError) → 29 ≤ store_number e
@@ -50,7 +48,7 @@ module _ (job : List ℕ) where
         }
 
   -- a job that is not as long as its counts say
-  says_length : (WellSized job → ⊥) → Says job (Refused Length)
+  says_length : (WellSized job → ⊥) → Says job (Err Length)
   says_length short = record {
     length = (λ e. short, λ h. refl);
     size = (λ e. let z : ◌≡◌ {A = ℕ} 33 29 = ap number e in absurd (omega arith), λ h. absurd (short h.0));
@@ -61,7 +59,7 @@ module _ (job : List ℕ) where
   }
 
   -- a job whose words are no store
-  says_store : WellSized job → (e : StoreError) → bytes_tested (word_bytes job) ≡ Err e → Says job (Refused (Store e))
+  says_store : WellSized job → (e : StoreError) → bytes_tested (word_bytes job) ≡ Err e → Says job (Err (Store e))
   says_store sized x at = record {
     length = (λ e. let z : store_number x ≡ 33 = ap number e in let low = not_length x in absurd (omega arith), λ h. absurd (h sized));
     size = (λ e. (sized, t.size.0 (ap store_refusal at ∙ e)), λ h. sym (ap store_refusal at) ∙ t.size.1 h.1);
@@ -75,10 +73,7 @@ module _ (job : List ℕ) where
       t = tests sized
 
       fails : InRange (word_count job) × Narrow (word job) (word_count job) → ⊥
-      fails h = let z : ◌≡◌ {A = ℕ} 0 1 = apart (sym at ∙ t.passes.1 h) in omega arith
-        where
-          apart : ◌≡◌ {A = Result (Unit {0}) StoreError} (Err x) (Ok tt) → ◌≡◌ {A = ℕ} 0 1
-          apart e = cc
+      fails h = let passes = t.passes.1 h in cc
 
   -- a job that means a program
   says_rules : WellSized job → bytes_tested (word_bytes job) ≡ Ok tt → (a : Result ℕ Fault) → Judges (program_of job) a → Says job (ruled a)
@@ -102,17 +97,17 @@ module _ (job : List ℕ) where
       low (Ok d) e = omega arith
       low (Err f) e = let few = few_rules (broken_rule f.breach) in omega arith
 
-      back : (a : Result ℕ Fault) (d : ℕ) → ruled a ≡ Admitted d → a ≡ Ok d
+      back : (a : Result ℕ Fault) (d : ℕ) → ruled a ≡ Ok d → a ≡ Ok d
       back (Ok c) d e = cc
-      back (Err f) d e = let z : ◌≡◌ {A = ℕ} 0 1 = cc in absurd (omega arith)
+      back (Err f) d e = cc
 
   says : Says job (verdict_of job)
   says = by (well_sized job) refl (bytes_tested (word_bytes job)) refl
     where
-      by : (b : Bool) → well_sized job ≡ b → (r : Result (Unit {0}) StoreError) → bytes_tested (word_bytes job) ≡ r → Says job (cond b (stored r (ruled (admission (program_of job)))) (Refused Length))
-      by false s r at = says_length (λ h. clash (sym s ∙ (decides_sized job).1 h))
+      by : (b : Bool) → well_sized job ≡ b → (r : Result (Unit {0}) StoreError) → bytes_tested (word_bytes job) ≡ r → Says job (cond b (stored r (ruled (admission (program_of job)))) (Err Length))
+      by false s r at = says_length (λ h. let long = (decides_sized job).1 h in cc)
       by true s (Err e) at = says_store ((decides_sized job).0 s) e at
       by true s (Ok u) at = says_rules ((decides_sized job).0 s) at (admission (program_of job)) (answers (program_of job) (admission (program_of job)) refl).judges
 
-  pub saying : (v : Verdict) → v ≡ verdict_of job → (v ≡ verdict_of job) × Says job v
-  saying v e = (e, subst (Says job) (sym e) says)
+  pub saying : (v : Result ℕ Refusal) → v ≡ verdict_of job → Says job v
+  saying v e = subst (Says job) (sym e) says

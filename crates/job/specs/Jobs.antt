@@ -9,9 +9,8 @@ use Rattle.platform.specs.declared.errors.StoreError.{StoreError}
 use Rattle.admission.specs.Admission.{admission}
 use Rattle.admission.specs.Program.{Program, program}
 use Rattle.admission.specs.declared.faults.Fault.{Fault}
+use Rattle.job.specs.declared.verdicts.Refusal.{Refusal}
 use Rattle.job.specs.declared.verdicts.Refusal.TheVariants.{Length, Store, Rule}
-use Rattle.job.specs.declared.verdicts.Verdict.{Verdict}
-use Rattle.job.specs.declared.verdicts.Verdict.TheVariants.{Admitted, Refused}
 
 -- the number of the two bytes from i on
 abbrev pub number_at : List ℕ → ℕ → ℕ
@@ -56,15 +55,15 @@ well_sized job = nat_le 12 (length job) && (nat_le (length job) 43014 && length 
 abbrev pub program_of : List ℕ → Program
 program_of job = program (description_in job) (word_count job) (formed (word_bytes job)) (numbers (table_bytes job)) (numbers (line_bytes job))
 
--- What is said of a job.
+-- What is said of a job: how deep the stack of an admitted program gets, or why it is refused.
 
-abbrev pub ruled : Result ℕ Fault → Verdict
-ruled (Ok depth) = Admitted depth
-ruled (Err f) = Refused (Rule f)
+abbrev pub ruled : Result ℕ Fault → Result ℕ Refusal
+ruled (Ok depth) = Ok depth
+ruled (Err f) = Err (Rule f)
 
-abbrev pub stored : Result (Unit {0}) StoreError → Verdict → Verdict
+abbrev pub stored : Result (Unit {0}) StoreError → Result ℕ Refusal → Result ℕ Refusal
 stored (Ok u) verdict = verdict
-stored (Err e) verdict = Refused (Store e)
+stored (Err e) verdict = Err (Store e)
 
-abbrev pub verdict_of : List ℕ → Verdict
-verdict_of job = cond (well_sized job) (stored (bytes_tested (word_bytes job)) (ruled (admission (program_of job)))) (Refused Length)
+abbrev pub verdict_of : List ℕ → Result ℕ Refusal
+verdict_of job = cond (well_sized job) (stored (bytes_tested (word_bytes job)) (ruled (admission (program_of job)))) (Err Length)

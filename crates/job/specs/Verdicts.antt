@@ -1,11 +1,14 @@
 -- The line that says a verdict.
 -- Assumes nothing.
-use Rattle.std.specs.Prelude.{ℕ, List, ◌++◌, codes, decimal}
+use Rattle.std.specs.Prelude.{ℕ, List, ◌++◌, Ok, Err, Result, codes, decimal}
 use Rattle.job.specs.Refusals.{refusal_number, refusal_place}
-use Rattle.job.specs.declared.verdicts.Verdict.{Verdict}
-use Rattle.job.specs.declared.verdicts.Verdict.TheVariants.{Admitted, Refused}
+use Rattle.job.specs.declared.verdicts.Refusal.{Refusal}
 
--- numbers are decimal, and a newline ends the line
-abbrev pub verdict_line : Verdict → List ℕ
-verdict_line (Admitted depth) = codes "admitted " ++ (decimal depth ++ codes "\n")
-verdict_line (Refused r) = codes "refused " ++ (decimal (refusal_number r) ++ (codes " at " ++ (decimal (refusal_place r) ++ codes "\n")))
+-- numbers are decimal
+abbrev pub refusal_text : Refusal → List ℕ
+refusal_text r = codes "refused " ++ (decimal (refusal_number r) ++ (codes " at " ++ decimal (refusal_place r)))
+
+-- a newline ends the line
+abbrev pub verdict_line : Result ℕ Refusal → List ℕ
+verdict_line (Ok depth) = codes "admitted " ++ (decimal depth ++ codes "\n")
+verdict_line (Err r) = refusal_text r ++ codes "\n"

@@ -1,12 +1,22 @@
-// The parts of a job.
-ghost use Rattle.std.specs.Prelude.{◌≡◌, ◌≤◌, true, length};
+// A job taken apart.
+ghost use Rattle.std.specs.Prelude.{◌≡◌, ◌/◌, ◌≤◌, length, is_ok, IfOk, IfErr};
 ghost use Rattle.job.specs.Jobs.{well_sized, description_in, word_bytes, table_bytes, line_bytes};
+ghost use Rattle.job.specs.declared.jobs.TheConstants.{MOST_NUMBERS, MOST_LINES};
 
 use crate::numbers::number_at;
+use crate::verdicts::Refusal;
 use platform::CoreDescription;
 
 // The most bytes that a job has.
 pub const LONGEST: usize = 43_014;
+
+// The bytes of the six numbers that it begins with.
+const HEADER: usize = 12;
+
+// What is left after them is at most so many numbers of a table, or so many words with their lines.
+pub(crate) const MOST_NUMBERS: usize = (LONGEST - HEADER) / 2;
+
+pub(crate) const MOST_LINES: usize = (LONGEST - HEADER) / 5;
 
 #[derive(Clone, Copy)]
 pub(crate) struct Job<'a> {
@@ -14,18 +24,8 @@ pub(crate) struct Job<'a> {
     pub(crate) words: &'a [u8],
     pub(crate) table: &'a [u8],
     pub(crate) lines: &'a [u8],
-}
-
-// As long as its counts say, and no longer than 8,192 words and 255 records take.
-pub(crate) fn is_well_sized(job: &[u8]) -> bool
-    ensures { result ≡ well_sized job.now }
-{
-    if job.len() < 12 || job.len() > LONGEST {
-        return false;
-    }
-    let words = number_at(job, 0) as usize;
-    let numbers = number_at(job, 10) as usize;
-    job.len() == 12 + 3 * words + 2 * numbers + 2 * words
+    ghost table_fits: { length table.now / 2 ≤ MOST_NUMBERS },
+    ghost lines_fit: { length lines.now / 2 ≤ MOST_LINES },
 }
 
 fn description_in(job: &[u8]) -> CoreDescription
@@ -38,19 +38,31 @@ fn description_in(job: &[u8]) -> CoreDescription
     }
 }
 
-pub(crate) fn parts(job: &[u8]) -> Job<'_>
-    requires { well_sized job.now ≡ true }
-    ensures description_value { result.description ≡ description_in job.now }
-    ensures words_value { result.words.now ≡ word_bytes job.now }
-    ensures table_value { result.table.now ≡ table_bytes job.now }
-    ensures lines_value { result.lines.now ≡ line_bytes job.now }
-{
-    let table = 12 + 3 * number_at(job, 0) as usize;
-    let lines = table + 2 * number_at(job, 10) as usize;
-    Job {
-        description: description_in(job),
-        words: &job[12..table],
-        table: &job[table..lines],
-        lines: &job[lines..],
+impl<'a> Job<'a> {
+    // The parts of a job that is as long as its counts say, and no longer than 8,192 words and 255 records take.
+    pub(crate) fn read(job: &'a [u8]) -> Result<Job<'a>, Refusal>
+        ensures variant { is_ok result ≡ well_sized job.now }
+        ensures error { IfErr result (λ refusal. refusal ≡ Refusal.Length) }
+        ensures description { IfOk result (λ parts. parts.description ≡ description_in job.now) }
+        ensures words { IfOk result (λ parts. parts.words.now ≡ word_bytes job.now) }
+        ensures table { IfOk result (λ parts. parts.table.now ≡ table_bytes job.now) }
+        ensures lines { IfOk result (λ parts. parts.lines.now ≡ line_bytes job.now) }
+    {
+        if job.len() < HEADER || job.len() > LONGEST {
+            return Err(Refusal::Length);
+        }
+        let words = number_at(job, 0) as usize;
+        let numbers = number_at(job, 10) as usize;
+        let table = HEADER + 3 * words;
+        let lines = table + 2 * numbers;
+        if job.len() != lines + 2 * words {
+            return Err(Refusal::Length);
+        }
+        Ok(Job {
+            description: description_in(job),
+            words: &job[HEADER..table],
+            table: &job[table..lines],
+            lines: &job[lines..],
+        })
     }
 }

@@ -1,52 +1,37 @@
 // What is said of a job.
-ghost use Rattle.std.specs.Prelude.{◌≡◌, true, IfOk};
+ghost use Rattle.std.specs.Prelude.{◌≡◌, ◌/◌, true, length, is_ok};
+ghost use Rattle.platform.specs.Stores.{formed, bytes_tested};
 ghost use Rattle.admission.specs.Admission.{admission};
-ghost use Rattle.job.specs.Jobs.{well_sized, ruled, verdict_of};
+ghost use Rattle.admission.specs.Program.{program};
+ghost use Rattle.job.specs.Jobs.{numbers, verdict_of};
 ghost use Rattle.job.specs.Laws.{Says};
 
-use crate::jobs::{is_well_sized, parts};
+use crate::jobs::{Job, MOST_LINES, MOST_NUMBERS};
 use crate::numbers::numbers_of;
-use crate::verdicts::{Refusal, Verdict};
+use crate::verdicts::Verdict;
 use admission::{Fault, admit};
 use platform::ByteStore;
-use std::alloc::{AllocError, Global};
 
-fn verdict_of(answer: Result<u16, Fault>) -> Verdict
-    ensures { result ≡ ruled answer }
-{
-    match answer {
-        Ok(depth) => Verdict::Admitted(depth),
-        Err(fault) => Verdict::Refused(Refusal::Rule(fault)),
+impl Job<'_> {
+    // What the rules say of a job whose words are a store.
+    fn check_rules(&self) -> Result<u16, Fault>
+        requires { is_ok (bytes_tested self.now.words.now) ≡ true }
+        ensures { let words = self.now.words.now in result ≡ admission (program self.now.description (length words / 3) (formed words) (numbers self.now.table.now) (numbers self.now.lines.now)) }
+    {
+        let store = ByteStore::new(self.words);
+        let table = numbers_of::<MOST_NUMBERS>(self.table);
+        let lines = numbers_of::<MOST_LINES>(self.lines);
+        admit(self.description, &store, table.as_slice(), lines.as_slice())
     }
 }
 
-fn judge_parts(heap: Global, job: &[u8]) -> Result<Verdict, AllocError>
-    requires { well_sized job.now ≡ true }
-    ensures { IfOk result (λ v. v ≡ verdict_of job.now) }
+// Whether the length is a job's, then whether the words are a store, and then the rules.
+pub fn judge(job: &[u8]) -> Verdict
+    ensures value { result ≡ verdict_of job.now }
+    ensures says { Says job.now result }
 {
-    let parts = parts(job);
-    if let Err(error) = ByteStore::test(parts.words) {
-        return Ok(Verdict::Refused(Refusal::Store(error)));
-    }
-    let store = ByteStore::new(parts.words);
-    let table = numbers_of(heap, parts.table)?;
-    let lines = numbers_of(heap, parts.lines)?;
-    let answer = admit(
-        parts.description,
-        &store,
-        table.as_slice(),
-        lines.as_slice(),
-    );
-    Ok(verdict_of(answer))
-}
-
-// Whether the length is a job's, then whether the words are a store, and then the rules. Only want of memory leaves it
-// unsaid.
-pub fn judge(heap: Global, job: &[u8]) -> Result<Verdict, AllocError>
-    ensures { IfOk result (λ v. (v ≡ verdict_of job.now) × Says job.now v) }
-{
-    if !is_well_sized(job) {
-        return Ok(Verdict::Refused(Refusal::Length));
-    }
-    judge_parts(heap, job)
+    let parts = Job::read(job)?;
+    ByteStore::test(parts.words)?;
+    let depth = parts.check_rules()?;
+    Ok(depth)
 }

@@ -10,4 +10,4 @@ pub mod verdicts;
 pub use examples::{Example, nine_words};
 pub use jobs::LONGEST;
 pub use judging::judge;
-pub use verdicts::{Refusal, Verdict};
+pub use verdicts::{Refusal, Verdict, verdict_line};

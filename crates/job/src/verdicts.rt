@@ -1,11 +1,13 @@
 // What is said of a job, and the one line that says it.
-ghost use Rattle.std.specs.Prelude.{◌≡◌, IfOk, string_bytes};
+ghost use Rattle.std.specs.Prelude.{◌≡◌, Some, IfOk, string_bytes};
 ghost use Rattle.job.specs.Refusals.{refusal_number, refusal_place};
-ghost use Rattle.job.specs.Verdicts.{verdict_line};
+ghost use Rattle.job.specs.Verdicts.{refusal_text, verdict_line};
+ghost use Rattle.job.specs.declared.verdicts.Refusal.TheVariants.{Store, Rule};
 
 use admission::Fault;
 use platform::StoreError;
 use std::alloc::{AllocError, Global};
+use std::fmt;
 
 #[derive(Clone, Copy, PartialEq, Eq, Debug)]
 pub enum Refusal {
@@ -15,6 +17,22 @@ pub enum Refusal {
     Store(StoreError),
     // the program breaks a rule
     Rule(Fault),
+}
+
+impl From<StoreError> for Refusal {
+    ghost from_gives = { λ error refusal. refusal ≡ Store error };
+
+    fn from(error: StoreError) -> Self {
+        Self::Store(error)
+    }
+}
+
+impl From<Fault> for Refusal {
+    ghost from_gives = { λ fault refusal. refusal ≡ Rule fault };
+
+    fn from(fault: Fault) -> Self {
+        Self::Rule(fault)
+    }
 }
 
 impl Refusal {
@@ -41,25 +59,25 @@ impl Refusal {
     }
 }
 
-#[derive(Clone, Copy, PartialEq, Eq, Debug)]
-pub enum Verdict {
-    // the stack gets so many words deep
-    Admitted(u16),
-    Refused(Refusal),
+impl fmt::Display for Refusal {
+    ghost output = { λ refusal. Some (refusal_text refusal) };
+
+    fn fmt<W: fmt::Write>(&self, f: &mut fmt::Formatter<W>) -> fmt::Result {
+        let number = self.number();
+        let place = self.place();
+        write!(f, "refused {number} at {place}")
+    }
 }
 
-impl Verdict {
-    // The line that says it, with its end.
-    pub fn line(self, heap: Global) -> Result<String, AllocError>
-        ensures { IfOk result (λ text. string_bytes text ≡ verdict_line self) }
-    {
-        match self {
-            Verdict::Admitted(depth) => format!(in heap; "admitted {depth}\n"),
-            Verdict::Refused(refusal) => {
-                let number = refusal.number();
-                let place = refusal.place();
-                format!(in heap; "refused {number} at {place}\n")
-            }
-        }
+// How many words deep the stack of an admitted program gets, or why it is refused.
+pub type Verdict = Result<u16, Refusal>;
+
+// The line that says it, with its end.
+pub fn verdict_line(verdict: Verdict, heap: Global) -> Result<String, AllocError>
+    ensures { IfOk result (λ text. string_bytes text ≡ verdict_line verdict) }
+{
+    match verdict {
+        Ok(depth) => format!(in heap; "admitted {depth}\n"),
+        Err(refusal) => format!(in heap; "{refusal}\n"),
     }
 }

@@ -8,7 +8,6 @@ use std::test::Fail;
 fn the_sample_and_its_like_are_admitted(rt: HostRuntime) -> Result<(), Fail> {
     check_all(
         &rt,
-        rt.alloc(),
         &[
             ("the sample", &[], "admitted 3"),
             ("depth at its top", &[Depth(16)], "admitted 3"),
@@ -31,7 +30,6 @@ fn the_sample_and_its_like_are_admitted(rt: HostRuntime) -> Result<(), Fail> {
 fn other_programs_are_admitted(rt: HostRuntime) -> Result<(), Fail> {
     check_all(
         &rt,
-        rt.alloc(),
         &[
             // 0 JUMP 0; 1, 2 and 3 RETI; the background, then the three interrupt routines
             (

@@ -1,6 +1,6 @@
 // A job before it is bytes, and what may be changed in it.
 use crate::opcodes::*;
-use job::{judge, nine_words};
+use job::{judge, nine_words, verdict_line};
 use std::alloc::{AllocError, Global};
 use std::process::Abort;
 use std::test::Fail;
@@ -145,23 +145,25 @@ pub(crate) type Case<'a> = (&'a str, &'a [Change], &'a str);
 
 // Whether this line is said of the sample with these changes.
 fn check_verdict(
-    rt: &impl Abort,
-    heap: Global,
+    rt: &(impl Abort + AllocGlobal),
     (label, changes, expected): Case<'_>,
 ) -> Result<(), Fail> {
-    let mut draft = Draft::sample(heap)?;
+    let mut draft = Draft::sample(rt.alloc())?;
     for change in changes {
         draft.make(*change)?;
     }
-    let job = draft.bytes(heap)?;
-    let line = judge(heap, job.as_slice())?.line(heap)?;
+    let job = draft.bytes(rt.alloc())?;
+    let line = verdict_line(judge(job.as_slice()), rt.alloc())?;
     assert_eq!(rt; line.as_str().strip_suffix("\n"), Some(expected), "{label}");
     Ok(())
 }
 
-pub(crate) fn check_all(rt: &impl Abort, heap: Global, cases: &[Case<'_>]) -> Result<(), Fail> {
+pub(crate) fn check_all(
+    rt: &(impl Abort + AllocGlobal),
+    cases: &[Case<'_>],
+) -> Result<(), Fail> {
     for case in cases {
-        check_verdict(rt, heap, *case)?;
+        check_verdict(rt, *case)?;
     }
     Ok(())
 }

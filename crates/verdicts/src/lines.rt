@@ -8,7 +8,6 @@ use std::test::Fail;
 fn rule_8_words(rt: HostRuntime) -> Result<(), Fail> {
     check_all(
         &rt,
-        rt.alloc(),
         &[
             ("reserved", &[Word(5, RESERVED)], "refused 8 at 5"),
             ("CALLS to an address", &[Word(4, CALLS_6)], "refused 8 at 4"),
@@ -34,7 +33,6 @@ fn rule_8_words(rt: HostRuntime) -> Result<(), Fail> {
 fn rule_9_stack_use(rt: HostRuntime) -> Result<(), Fail> {
     check_all(
         &rt,
-        rt.alloc(),
         &[
             ("POP at height 0", &[Word(6, POP)], "refused 9 at 6"),
             ("RET at height 1", &[Word(7, RET)], "refused 9 at 7"),
@@ -63,7 +61,6 @@ fn rule_9_stack_use(rt: HostRuntime) -> Result<(), Fail> {
 fn rule_10_next_addresses(rt: HostRuntime) -> Result<(), Fail> {
     check_all(
         &rt,
-        rt.alloc(),
         &[
             ("n after NOP", &[Word(8, NOP)], "refused 10 at 8"),
             ("another owner", &[Word(5, NOP)], "refused 10 at 5"),
@@ -108,7 +105,6 @@ fn rule_10_next_addresses(rt: HostRuntime) -> Result<(), Fail> {
 fn rule_10_jumps(rt: HostRuntime) -> Result<(), Fail> {
     check_all(
         &rt,
-        rt.alloc(),
         &[
             ("to n", &[Word(5, JUMP_9)], "refused 10 at 5"),
             ("to another owner", &[Word(5, JUMP_6)], "refused 10 at 5"),
@@ -137,7 +133,6 @@ fn rule_10_jumps(rt: HostRuntime) -> Result<(), Fail> {
 fn rule_11_targets(rt: HostRuntime) -> Result<(), Fail> {
     check_all(
         &rt,
-        rt.alloc(),
         &[
             ("no entry", &[Word(4, CALL_7)], "refused 11 at 4"),
             ("n", &[Word(4, CALL_9)], "refused 11 at 4"),
@@ -175,7 +170,6 @@ fn rule_11_targets(rt: HostRuntime) -> Result<(), Fail> {
 fn rule_11_routines_call_routines(rt: HostRuntime) -> Result<(), Fail> {
     check_all(
         &rt,
-        rt.alloc(),
         &[
             (
                 "quiet from quiet",
@@ -228,7 +222,6 @@ fn rule_11_routines_call_routines(rt: HostRuntime) -> Result<(), Fail> {
 fn rule_11_needs(rt: HostRuntime) -> Result<(), Fail> {
     check_all(
         &rt,
-        rt.alloc(),
         &[
             (
                 "the caller needs too little",
@@ -286,7 +279,6 @@ fn rule_11_needs(rt: HostRuntime) -> Result<(), Fail> {
 fn rule_12_stat_in_routines(rt: HostRuntime) -> Result<(), Fail> {
     check_all(
         &rt,
-        rt.alloc(),
         &[
             (
                 "MOVE",
@@ -331,7 +323,6 @@ fn rule_12_stat_in_routines(rt: HostRuntime) -> Result<(), Fail> {
 fn rule_12_stat_elsewhere(rt: HostRuntime) -> Result<(), Fail> {
     check_all(
         &rt,
-        rt.alloc(),
         &[
             (
                 "interrupt",
@@ -352,7 +343,6 @@ fn rule_12_stat_elsewhere(rt: HostRuntime) -> Result<(), Fail> {
 fn rule_13_depth(rt: HostRuntime) -> Result<(), Fail> {
     check_all(
         &rt,
-        rt.alloc(),
         &[
             ("one too small", &[Depth(2)], "refused 13 at 0"),
             ("level 0 needs more", &[Table(11, 1)], "refused 13 at 0"),

@@ -8,7 +8,6 @@ use std::test::Fail;
 fn what_is_not_of_lines_comes_in_order(rt: HostRuntime) -> Result<(), Fail> {
     check_all(
         &rt,
-        rt.alloc(),
         &[
             (
                 "30 at 8 before 1",
@@ -54,7 +53,6 @@ fn what_is_not_of_lines_comes_in_order(rt: HostRuntime) -> Result<(), Fail> {
 fn what_is_of_lines_comes_in_order(rt: HostRuntime) -> Result<(), Fail> {
     check_all(
         &rt,
-        rt.alloc(),
         &[
             (
                 "8 at 8 before 9 at 1",

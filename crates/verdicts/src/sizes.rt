@@ -8,7 +8,6 @@ use std::test::Fail;
 fn refused_33_for_the_length(rt: HostRuntime) -> Result<(), Fail> {
     check_all(
         &rt,
-        rt.alloc(),
         &[
             ("no bytes", &[Cut(99)], "refused 33 at 0"),
             ("eleven bytes", &[Cut(88)], "refused 33 at 0"),
@@ -35,7 +34,6 @@ fn refused_33_for_the_length(rt: HostRuntime) -> Result<(), Fail> {
 fn refused_29_for_the_size(rt: HostRuntime) -> Result<(), Fail> {
     check_all(
         &rt,
-        rt.alloc(),
         &[
             ("no words", &[WordCount(0)], "refused 29 at 0"),
             ("8,193 words", &[WordCount(8193)], "refused 29 at 0"),
@@ -53,7 +51,6 @@ fn refused_29_for_the_size(rt: HostRuntime) -> Result<(), Fail> {
 fn refused_30_for_a_wide_word(rt: HostRuntime) -> Result<(), Fail> {
     check_all(
         &rt,
-        rt.alloc(),
         &[
             ("at 0", &[Word(0, WIDE)], "refused 30 at 0"),
             ("at the last address", &[Word(8, WIDE)], "refused 30 at 8"),
@@ -73,7 +70,6 @@ fn refused_30_for_a_wide_word(rt: HostRuntime) -> Result<(), Fail> {
 fn rule_1_description(rt: HostRuntime) -> Result<(), Fail> {
     check_all(
         &rt,
-        rt.alloc(),
         &[
             ("depth 0", &[Depth(0)], "refused 1 at 0"),
             ("depth 17", &[Depth(17)], "refused 1 at 0"),
@@ -96,7 +92,6 @@ fn rule_1_description(rt: HostRuntime) -> Result<(), Fail> {
 fn rule_2_sizes(rt: HostRuntime) -> Result<(), Fail> {
     check_all(
         &rt,
-        rt.alloc(),
         &[
             ("no record", &[TableSize(1)], "refused 2 at 0"),
             ("a number short", &[TableSize(20)], "refused 2 at 0"),

@@ -7,7 +7,6 @@ use std::test::Fail;
 fn rule_3_chain(rt: HostRuntime) -> Result<(), Fail> {
     check_all(
         &rt,
-        rt.alloc(),
         &[
             ("first index 0", &[Table(0, 0)], "refused 3 at 0"),
             ("first index above R", &[Table(0, 6)], "refused 3 at 0"),
@@ -33,7 +32,6 @@ fn rule_3_chain(rt: HostRuntime) -> Result<(), Fail> {
 fn rule_4_kinds(rt: HostRuntime) -> Result<(), Fail> {
     check_all(
         &rt,
-        rt.alloc(),
         &[
             ("kind 0", &[Table(2, 0)], "refused 4 at 1"),
             ("kind 5", &[Table(18, 5)], "refused 4 at 5"),
@@ -53,7 +51,6 @@ fn rule_4_kinds(rt: HostRuntime) -> Result<(), Fail> {
 fn rule_5_entries(rt: HostRuntime) -> Result<(), Fail> {
     check_all(
         &rt,
-        rt.alloc(),
         &[
             ("no background", &[Table(2, 4)], "refused 5 at 0"),
             (
@@ -74,7 +71,6 @@ fn rule_5_entries(rt: HostRuntime) -> Result<(), Fail> {
 fn rule_6_entry_lines(rt: HostRuntime) -> Result<(), Fail> {
     check_all(
         &rt,
-        rt.alloc(),
         &[
             ("entry at n", &[Table(5, 9)], "refused 6 at 2"),
             ("line 0", &[Line(6, 0)], "refused 6 at 2"),
@@ -93,7 +89,6 @@ fn rule_6_entry_lines(rt: HostRuntime) -> Result<(), Fail> {
 fn rule_7_owners(rt: HostRuntime) -> Result<(), Fail> {
     check_all(
         &rt,
-        rt.alloc(),
         &[
             ("owner 0, height 1", &[Line(5, 1)], "refused 7 at 5"),
             ("owner above R", &[Line(5, 192)], "refused 7 at 5"),

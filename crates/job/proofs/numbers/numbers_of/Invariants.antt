@@ -1,7 +1,6 @@
-use Rattle.std.proofs.Common.{◌≡◌, ◌*◌, map, vec_items}
-use Rattle.std.specs.List.{range_with_len}
-use Rattle.job.specs.Jobs.{number_at}
+use Rattle.std.proofs.Common.{◌≡◌, map, take}
+use Rattle.std.specs.Int.{w16, from_be_bytes}
 use Rattle.job.proofs.numbers.numbers_of.Given as goal
 
-abbrev pub invariant-loop-k : goal.invariant-loop-k
-invariant-loop-k l = vec_items l.numbers ≡ map (λ j. number_at l.bytes (2 * j)) (range_with_len 0 l.k)
+abbrev pub invariant-loop-pair : goal.invariant-loop-pair
+invariant-loop-pair g l = l.numbers.items ≡ map (from_be_bytes w16) (take l.pair-index l.pair-items)
