@@ -8,7 +8,7 @@ use Rattle.platform.specs.declared.errors.StoreError.TheVariants.{Size, WideWord
 use Rattle.platform.proofs.Words.{tested_bytes}
 use Rattle.admission.specs.Admission.{admission}
 use Rattle.admission.specs.Laws.{Judges}
-use Rattle.admission.specs.Refusals.{rule_number, broken_rule, refusal}
+use Rattle.admission.specs.Refusals.{broken_rule, refusal}
 use Rattle.admission.specs.declared.faults.Fault.{Fault}
 use Rattle.admission.proofs.Judging.{few_rules, answers}
 use Rattle.job.specs.Jobs.{word_count, word_bytes, well_sized, program_of, ruled, stored, verdict_of}
@@ -21,9 +21,6 @@ use Rattle.job.proofs.Written.{reads_back}
 abbrev number : Option (ℕ × ℕ) → ℕ
 number None = 0
 number (Some log) = log.0
-
-admitted_only : {d : ℕ} (v : Result ℕ Refusal) → v ≡ Ok d → number (verdict_refusal v) ≡ 0
-admitted_only v e = ap (λ x. number (verdict_refusal x)) e
 
 late : (e : StoreError) → 29 ≤ store_number e
 late Size = omega arith
@@ -51,21 +48,21 @@ module _ (job : List ℕ) where
   says_length : (WellSized job → ⊥) → Says job (Err Length)
   says_length short = record {
     length = (λ e. short, λ h. refl);
-    size = (λ e. let z : ◌≡◌ {A = ℕ} 33 29 = ap number e in absurd (omega arith), λ h. absurd (short h.0));
-    wide = λ p. (λ e. let z : ◌≡◌ {A = ℕ} 33 30 = ap number e in absurd (omega arith), λ h. absurd (short h.0));
-    admits = λ d. (λ e. let z : ◌≡◌ {A = ℕ} 33 0 = admitted_only _ e in absurd (omega arith), λ h. absurd (short h.0.0));
-    refuses = λ rule p. (λ e. let z : 33 ≡ rule_number rule = ap number e in let few = few_rules rule in absurd (omega arith), λ h. absurd (short h.0.0));
+    size = (λ e. absurd (omega (arith, ap number e)), λ h. absurd (short h.0));
+    wide = λ p. (λ e. absurd (omega (arith, ap number e)), λ h. absurd (short h.0));
+    admits = λ d. (λ e. cc, λ h. absurd (short h.0.0));
+    refuses = λ rule p. (λ e. absurd (omega (arith, ap number e, few_rules rule)), λ h. absurd (short h.0.0));
     means = reads_back job;
   }
 
   -- a job whose words are no store
   says_store : WellSized job → (e : StoreError) → bytes_tested (word_bytes job) ≡ Err e → Says job (Err (Store e))
   says_store sized x at = record {
-    length = (λ e. let z : store_number x ≡ 33 = ap number e in let low = not_length x in absurd (omega arith), λ h. absurd (h sized));
+    length = (λ e. absurd (omega (arith, ap number e, not_length x)), λ h. absurd (h sized));
     size = (λ e. (sized, t.size.0 (ap store_refusal at ∙ e)), λ h. sym (ap store_refusal at) ∙ t.size.1 h.1);
     wide = λ p. (λ e. (sized, (t.wide p).0 (ap store_refusal at ∙ e)), λ h. sym (ap store_refusal at) ∙ (t.wide p).1 h.1);
-    admits = λ d. (λ e. let z : store_number x ≡ 0 = admitted_only _ e in let high = late x in absurd (omega arith), λ h. absurd (fails h.0.1));
-    refuses = λ rule p. (λ e. let z : store_number x ≡ rule_number rule = ap number e in let few = few_rules rule in let high = late x in absurd (omega arith), λ h. absurd (fails h.0.1));
+    admits = λ d. (λ e. cc, λ h. absurd (fails h.0.1));
+    refuses = λ rule p. (λ e. absurd (omega (arith, ap number e, few_rules rule, late x)), λ h. absurd (fails h.0.1));
     means = reads_back job;
   }
     where
@@ -78,9 +75,9 @@ module _ (job : List ℕ) where
   -- a job that means a program
   says_rules : WellSized job → bytes_tested (word_bytes job) ≡ Ok tt → (a : Result ℕ Fault) → Judges (program_of job) a → Says job (ruled a)
   says_rules sized at a j = record {
-    length = (λ e. let z = low a (ap number e) in absurd (omega arith), λ h. absurd (h sized));
-    size = (λ e. let z = low a (ap number e) in absurd (omega arith), λ h. absurd (h.1 (t.passes.0 at).0));
-    wide = λ p. (λ e. let z = low a (ap number e) in absurd (omega arith), λ h. let no-wide = (t.passes.0 at).1 p h.1.1 in let wide = h.1.3 in absurd (omega arith));
+    length = (λ e. absurd (omega (arith, low a (ap number e))), λ h. absurd (h sized));
+    size = (λ e. absurd (omega (arith, low a (ap number e))), λ h. absurd (h.1 (t.passes.0 at).0));
+    wide = λ p. (λ e. absurd (omega (arith, low a (ap number e))), λ h. absurd (omega (arith, (t.passes.0 at).1 p h.1.1, h.1.3)));
     admits = λ d. (λ e. ((sized, t.passes.0 at), (j.admits d).0 (back a d e)), λ h. ap ruled ((j.admits d).1 h.1));
     refuses = λ rule p. (λ e. ((sized, t.passes.0 at), (j.refuses rule p).0 (sym (same a) ∙ e)), λ h. same a ∙ (j.refuses rule p).1 h.1);
     means = reads_back job;

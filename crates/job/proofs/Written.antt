@@ -1,16 +1,18 @@
 -- What is read from a job is what was written.
 -- Assumes nothing.
-use Rattle.std.proofs.Common.{◌≡◌, ℕ, zero, suc, ◌+◌, ◌*◌, ◌/◌, ◌<◌, List, [], ◌∷◌, ◌++◌, length, get_or, take, drop, sym, refl, ap, ◌∙◌, ⊎_elim, not-suc-le-zero, arith}
+use Rattle.std.proofs.Common.{◌≡◌, ℕ, zero, suc, ◌*◌, ◌/◌, ◌<◌, List, [], ◌∷◌, ◌++◌, length, map, get_or, take, drop, sym, refl, ap, ◌∙◌, ⊎_elim, not-suc-le-zero, arith}
 use mathlib.Core.Path.{fun_ext}
-use Rattle.std.proofs.lemmas.List.FromFn.{fill_by_all}
 use Rattle.std.proofs.lemmas.List.{take_at, drop_at, drop-drop, get_or_past}
 use Rattle.std.proofs.lemmas.Bool.{cases_lt, cond-true, cond-false, lt-ltb, le-ltb}
+use Rattle.std.specs.Int.{w16, from_be_bytes}
 use Rattle.std.specs.List.{flat_map}
+use Rattle.std.specs.Simd.{first_chunks}
 use Rattle.platform.specs.Stores.{listed, big_endian, formed}
 use Rattle.admission.specs.Program.{program}
 use Rattle.job.specs.Jobs.{number_at, numbers, word_count, table_count, table_start, description_in, word_bytes, table_bytes, line_bytes, program_of}
 use Rattle.job.specs.Laws.{ReadsBack}
 use Rattle.job.specs.Writing.{two_bytes, three_bytes, describes, written, meant}
+use Rattle.job.proofs.Pairs.{numbers_from_pairs}
 
 long_two : (xs : List ℕ) → length (flat_map two_bytes xs) ≡ 2 * length xs
 long_two [] = refl
@@ -20,34 +22,20 @@ long_three : (xs : List ℕ) → length (flat_map three_bytes xs) ≡ 3 * length
 long_three [] = refl
 long_three (x ∷ xs) = let rest = long_three xs in omega arith
 
--- two bytes further on is one number further on
-step_two : (k : ℕ) → 2 * suc k ≡ suc (suc (2 * k))
-step_two k = omega arith
+-- read in pairs, two bytes to a number are that number
+pairs_back : (xs : List ℕ) → map (from_be_bytes w16) (first_chunks 2 (length xs) (flat_map two_bytes xs)) ≡ xs
+pairs_back [] = refl
+pairs_back (x ∷ xs) = let first : from_be_bytes w16 (two_bytes x) ≡ x = omega arith in cc (pairs_back xs)
 
-step_three : (k : ℕ) → 3 * suc k ≡ suc (suc (suc (3 * k)))
-step_three k = omega arith
-
-number_back : (xs : List ℕ) (k : ℕ) → k < length xs → get_or xs k 0 ≡ number_at (flat_map two_bytes xs) (2 * k)
-number_back [] k lt = absurd (not-suc-le-zero lt)
-number_back (x ∷ xs) zero lt = omega arith
-number_back (x ∷ xs) (suc k) lt =
-    let bytes = flat_map two_bytes (x ∷ xs) in
-    let next : 2 * suc k + 1 ≡ suc (suc (2 * k + 1)) = omega arith in
-    let high = ap (λ j. get_or bytes j 0) (step_two k) in
-    let low = ap (λ j. get_or bytes j 0) next in
-    let rest = number_back xs k (omega arith) in
-    omega arith
+numbers_back : (xs : List ℕ) → numbers (flat_map two_bytes xs) ≡ xs
+numbers_back xs = let half : length (flat_map two_bytes xs) / 2 ≡ length xs = omega (arith, long_two xs) in cc (numbers_from_pairs (flat_map two_bytes xs), pairs_back xs)
 
 word_back : (xs : List ℕ) (k : ℕ) → k < length xs → big_endian (drop (3 * k) (flat_map three_bytes xs)) ≡ get_or xs k 0
 word_back [] k lt = absurd (not-suc-le-zero lt)
 word_back (x ∷ xs) zero lt = omega arith
-word_back (x ∷ xs) (suc k) lt = ap (λ j. big_endian (drop j (flat_map three_bytes (x ∷ xs)))) (step_three k) ∙ word_back xs k (omega arith)
-
-numbers_back : (xs : List ℕ) → numbers (flat_map two_bytes xs) ≡ xs
-numbers_back xs =
-    let long = long_two xs in
-    let half : length (flat_map two_bytes xs) / 2 ≡ length xs = omega arith in
-    sym (fill_by_all (λ k. number_at (flat_map two_bytes xs) (2 * k)) xs (length (flat_map two_bytes xs) / 2) 0 (sym half) (λ k lt. number_back xs k (omega arith)))
+word_back (x ∷ xs) (suc k) lt =
+    let three : 3 * suc k ≡ suc (suc (suc (3 * k))) = omega arith in
+    ap (λ j. big_endian (drop j (flat_map three_bytes (x ∷ xs)))) three ∙ word_back xs k (omega arith)
 
 words_back : (xs : List ℕ) (a : ℕ) → formed (flat_map three_bytes xs) a ≡ listed xs a
 words_back xs a =

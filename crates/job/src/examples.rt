@@ -10,6 +10,7 @@ pub struct Example {
 }
 
 // With the vectors 1, 2 and 3 a stack of three words is just enough for it.
+#[tactic(auto, using(crate::proofs::Nine::three_is_enough))]
 pub fn nine_words() -> Example
     ensures words_value { result.words ≡ nine_words }
     ensures table_value { result.table ≡ nine_table }

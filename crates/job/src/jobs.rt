@@ -29,7 +29,7 @@ pub(crate) struct Job<'a> {
 }
 
 fn description_in(job: &[u8]) -> CoreDescription
-    requires { 12 ≤ length job.now }
+    requires { HEADER ≤ length job.now }
     ensures { result ≡ description_in job.now }
 {
     CoreDescription {

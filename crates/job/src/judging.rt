@@ -16,7 +16,9 @@ impl Job<'_> {
     // What the rules say of a job whose words are a store.
     fn check_rules(&self) -> Result<u16, Fault>
         requires { is_ok (bytes_tested self.now.words.now) ≡ true }
-        ensures { let words = self.now.words.now in result ≡ admission (program self.now.description (length words / 3) (formed words) (numbers self.now.table.now) (numbers self.now.lines.now)) }
+        ensures { let words = self.now.words.now in
+            result ≡ admission (program self.now.description (length words / 3) (formed words)
+            (numbers self.now.table.now) (numbers self.now.lines.now)) }
     {
         let store = ByteStore::new(self.words);
         let table = numbers_of::<MOST_NUMBERS>(self.table);
@@ -32,6 +34,5 @@ pub fn judge(job: &[u8]) -> Verdict
 {
     let parts = Job::read(job)?;
     ByteStore::test(parts.words)?;
-    let depth = parts.check_rules()?;
-    Ok(depth)
+    Ok(parts.check_rules()?)
 }

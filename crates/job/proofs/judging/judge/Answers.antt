@@ -8,8 +8,8 @@ returns-in_err-parts-clause-says c = saying c.args.job.now _ (search rules)
 pub returns-in_err-test-clause-says : goal.returns-in_err-test-clause-says
 returns-in_err-test-clause-says c = saying c.args.job.now _ (search rules)
 
-pub returns-in_err-depth-clause-says : goal.returns-in_err-depth-clause-says
-returns-in_err-depth-clause-says c = saying c.args.job.now _ (search rules)
+pub returns-in_err-check_rules-clause-says : goal.returns-in_err-check_rules-clause-says
+returns-in_err-check_rules-clause-says c = saying c.args.job.now _ (search rules)
 
 pub returns-clause-says : goal.returns-clause-says
 returns-clause-says c = saying c.args.job.now _ (search rules)
