@@ -1,5 +1,6 @@
 pub mod Nine
 pub mod Pairs
+pub mod Parts
 pub mod Saying
 pub mod Sizes
 pub mod Written
