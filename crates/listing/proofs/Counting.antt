@@ -1,6 +1,6 @@
 -- Counted over the words one by one, as many are no instructions as are counted by their addresses.
 -- Assumes nothing.
-use Rattle.std.proofs.Common.{◌≡◌, ℕ, zero, suc, ◌+◌, ◌/◌, cond, List, [], length, take, drop, Ok, Err, Result, is_ok, is_err, refl, ap, ◌∙◌, arith}
+use Rattle.std.proofs.Common.{◌≡◌, ℕ, zero, suc, ◌+◌, ◌/◌, cond, List, length, take, drop, Ok, Err, Result, is_ok, is_err, refl, ap, ◌∙◌, arith}
 use Rattle.std.proofs.lemmas.List.Sums.{sum_by-cons}
 use Rattle.std.specs.List.{count_by}
 use Rattle.std.specs.Simd.{first_chunks}
@@ -20,14 +20,12 @@ module _ (image : List ℕ) where
 
   from : (k n : ℕ) → refused_below image k + count (first_chunks 3 n (left image k)) ≡ refused_below image (k + n)
   from k zero =
-      let none : count [] ≡ 0 = refl in
       let same : refused_below image (k + 0) ≡ refused_below image k = ap (refused_below image) (omega arith) in
       omega arith
   from k (suc n) =
-      let this : cond (is_err (decoded (word_at (take 3 (left image k)) 0))) 1 0 ≡ refusals (word_at image k) = one (decoded (word_at (take 3 (left image k)) 0)) ∙ ap refusals (word image k) in
-      let rest : count (first_chunks 3 n (drop 3 (left image k))) ≡ count (first_chunks 3 n (left image (suc k))) = ap (λ bytes. count (first_chunks 3 n bytes)) (left_next image k) in
+      let this = one (decoded (word_at (take 3 (left image k)) 0)) ∙ ap refusals (word image k) in
+      let rest = ap (λ bytes. count (first_chunks 3 n bytes)) (left_next image k) in
       let all = sum_by-cons (λ bytes. cond (is_err (decoded (word_at bytes 0))) 1 0) (take 3 (left image k)) (first_chunks 3 n (drop 3 (left image k))) in
-      let more : refused_below image (suc k) ≡ refused_below image k + refusals (word_at image k) = refl in
       let later = from (suc k) n in
       let same : refused_below image (suc k + n) ≡ refused_below image (k + suc n) = ap (refused_below image) (omega arith) in
       omega arith

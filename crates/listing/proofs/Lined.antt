@@ -8,5 +8,4 @@ use Rattle.listing.specs.Lines.{line_text, lines_text}
 
 pub more : (old so_far new : Option (List ℕ)) (image : List ℕ) (address word : ℕ) → word ≡ word_at image address → Appends old so_far (lines_text image address) → Appends so_far new (line_text (record { address = address; word = word }) ++ codes "\n") → Appends old new (lines_text image (address + 1))
 more old so_far new image address word same before this =
-    let both = Appends-trans old so_far new (lines_text image address) (line_text (record { address = address; word = word_at image address }) ++ codes "\n") before (subst (λ w. Appends so_far new (line_text (record { address = address; word = w }) ++ codes "\n")) same this) in
-    subst (λ n. Appends old new (lines_text image n)) (sym (add-one address)) both
+    subst (λ n. Appends old new (lines_text image n)) (sym (add-one address)) (Appends-trans old so_far new (lines_text image address) _ before (subst (λ w. Appends so_far new (line_text (record { address = address; word = w }) ++ codes "\n")) same this))
