@@ -16,12 +16,9 @@ pub enum Condition {
 }
 
 impl From<Condition> for u32 {
-    ghost from_gives = { λ x code. code ≡ condition_code x };
+    ghost from_gives = { λ x code. (code ≡ condition_code x) × (code < 8) };
 
-    fn from(condition: Condition) -> u32
-        ensures value { result ≡ condition_code condition }
-        ensures upper_bound { result < 8 }
-    {
+    fn from(condition: Condition) -> u32 {
         condition as u32
     }
 }

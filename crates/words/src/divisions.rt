@@ -17,12 +17,9 @@ pub enum Division {
 }
 
 impl From<Division> for u32 {
-    ghost from_gives = { λ x code. code ≡ division_code x };
+    ghost from_gives = { λ x code. (code ≡ division_code x) × (code < 16) };
 
-    fn from(division: Division) -> u32
-        ensures value { result ≡ division_code division }
-        ensures upper_bound { result < 16 }
-    {
+    fn from(division: Division) -> u32 {
         division as u32
     }
 }

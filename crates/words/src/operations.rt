@@ -55,12 +55,9 @@ pub enum Form {
 }
 
 impl From<Operation> for u32 {
-    ghost from_gives = { λ x code. code ≡ operation_code x };
+    ghost from_gives = { λ x code. (code ≡ operation_code x) × (code < 32) };
 
-    fn from(operation: Operation) -> u32
-        ensures value { result ≡ operation_code operation }
-        ensures upper_bound { result < 32 }
-    {
+    fn from(operation: Operation) -> u32 {
         operation as u32
     }
 }

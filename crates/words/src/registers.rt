@@ -24,12 +24,9 @@ pub enum Register {
 }
 
 impl From<Register> for u32 {
-    ghost from_gives = { λ x code. code ≡ register_code x };
+    ghost from_gives = { λ x code. (code ≡ register_code x) × (code < 16) };
 
-    fn from(register: Register) -> u32
-        ensures value { result ≡ register_code register }
-        ensures upper_bound { result < 16 }
-    {
+    fn from(register: Register) -> u32 {
         register as u32
     }
 }
@@ -69,12 +66,9 @@ pub enum IndexRegister {
 }
 
 impl From<IndexRegister> for u32 {
-    ghost from_gives = { λ x code. code ≡ index_code x };
+    ghost from_gives = { λ x code. (code ≡ index_code x) × (code < 4) };
 
-    fn from(index: IndexRegister) -> u32
-        ensures value { result ≡ index_code index }
-        ensures upper_bound { result < 4 }
-    {
+    fn from(index: IndexRegister) -> u32 {
         index as u32
     }
 }
