@@ -44,6 +44,10 @@ index_at w k p rest ix e lt = named _ I3 ix (found_at by_index w k p rest ix e l
 condition_at : (w k p rest : ℕ) (c : Condition) → w ≡ (p * 2 ^ 3 + condition_code c) * 2 ^ k + rest → rest < 2 ^ k → condition (bits w k 3) ≡ c
 condition_at w k p rest c e lt = named _ Event c (found_at by_condition w k p rest c e lt)
 
+-- a number that is held inverted in the lowest field, with p above it
+inverted_low : (w n p x : ℕ) → w ≡ p * 2 ^ n + (2 ^ n - 1 - x) → x < 2 ^ n → inverted w n ≡ x
+inverted_low w n p x e lt = let held = lowest w n p (2 ^ n - 1 - x) e (omega arith) in omega arith
+
 -- the operation of a word, where the form has it
 operation_read : (form : Form) (n : ℕ) (op : Operation) → has_form op form ≡ true → n ≡ operation_code op → operation_in form n ≡ Some op
 operation_read form n op has e = ap (λ o. reading o (λ x. cond (has_form x form) (Some x) None)) (found by_operation n op e) ∙ cond-true _ _ _ has
@@ -93,10 +97,9 @@ complete w Reti h = row_says 2 (lit< tt) w (omega arith) refl
 complete w (Jump c (Address a)) h =
     let lc = (by_condition.stands c).0 in
     let la = ltb-true a (2 ^ 16) h.fields in
-    let held = lowest w 16 (0b110000 + condition_code c) (0xFFFF - a) (omega arith) (omega arith) in
-    let back : inverted w 16 ≡ a = omega arith in
+    let back = inverted_low w 16 (0b110000 + condition_code c) a (omega arith) la in
     row_says 6 (lit< tt) w (omega arith)
-    ((λ t. Some (Jump (condition_at w 16 0b110 (0xFFFF - a) c (omega arith) (omega arith) t) (Address (back t)))))
+    (λ t. Some (Jump (condition_at w 16 0b110 (0xFFFF - a) c (omega arith) (omega arith) t) (Address (back t))))
 complete w (Jump c Ip) h =
     let lc = (by_condition.stands c).0 in
     row_says 10 (lit< tt) w (omega arith)
@@ -118,8 +121,7 @@ complete w (AluMemory op r (Direct a)) h =
     let lo = (by_operation.stands op).0 in
     let lr = (by_register.stands r).0 in
     let la = ltb-true a (2 ^ 8) h.fields in
-    let held = lowest w 8 (0b00010 * 2 ^ 9 + operation_code op * 2 ^ 4 + register_code r) (0xFF - a) (omega arith) (omega arith) in
-    let back : inverted w 8 ≡ a = omega arith in
+    let back = inverted_low w 8 (0b00010 * 2 ^ 9 + operation_code op * 2 ^ 4 + register_code r) a (omega arith) la in
     row_says 19 (lit< tt) w (omega arith)
     (memory_read w 0b00010 (0xFF - a) op r (Direct a) (Direct (inverted w 8)) h.form (omega arith) (omega arith) (ap Direct back))
 complete w (AluMemory op r (Offset ix offset)) h =
@@ -164,8 +166,7 @@ complete w (AluImmediate op r value) h =
     let lr = (by_register.stands r).0 in
     let lv = ltb-true value (2 ^ 8) h.fields in
     let above = 0b001110 * 2 ^ 4 + operation_code op in
-    let held = lowest w 8 (above * 2 ^ 4 + register_code r) (0xFF - value) (omega arith) (omega arith) in
-    let back : inverted w 8 ≡ value = omega arith in
+    let back = inverted_low w 8 (above * 2 ^ 4 + register_code r) value (omega arith) lv in
     row_says 13 (lit< tt) w (omega arith)
     (ap (λ o. option_map (λ x. AluImmediate x (register (bits w 8 4)) (inverted w 8)) o) (operation_read Immediate (bits w 12 4) op h.form (field w 12 4 0b001110 (operation_code op) (register_code r * 2 ^ 8 + (0xFF - value)) (omega arith) lo (omega arith)))
     ∙ (λ t. Some (AluImmediate op (register_at w 8 above (0xFF - value) r (omega arith) (omega arith) t) (back t))))
@@ -195,17 +196,16 @@ complete w (AluTwoSources op result op1 op2) h =
 complete w (Store (Direct a) r) h =
     let lr = (by_register.stands r).0 in
     let la = ltb-true a (2 ^ 8) h.fields in
-    let held = lowest w 8 (0b0000011011 * 2 ^ 4 + register_code r) (0xFF - a) (omega arith) (omega arith) in
-    let back : inverted w 8 ≡ a = omega arith in
+    let back = inverted_low w 8 (0b0000011011 * 2 ^ 4 + register_code r) a (omega arith) la in
     row_says 23 (lit< tt) w (omega arith)
-    ((λ t. Some (Store (Direct (back t)) (register_at w 8 0b0000011011 (0xFF - a) r (omega arith) (omega arith) t))))
+    (λ t. Some (Store (Direct (back t)) (register_at w 8 0b0000011011 (0xFF - a) r (omega arith) (omega arith) t)))
 complete w (Store (Offset ix offset) r) h =
     let lr = (by_register.stands r).0 in
     let lx = (by_index.stands ix).0 in
     let la = ltb-true offset (2 ^ 8) h.fields in
     let above = 0b00001011 * 2 ^ 2 + index_code ix in
     row_says 22 (lit< tt) w (omega arith)
-    ((λ t. Some (Store (Offset (index_at w 12 0b00001011 (register_code r * 2 ^ 8 + offset) ix (omega arith) (omega arith) t) (lowest w 8 (above * 2 ^ 4 + register_code r) offset (omega arith) la t)) (register_at w 8 above offset r (omega arith) la t))))
+    (λ t. Some (Store (Offset (index_at w 12 0b00001011 (register_code r * 2 ^ 8 + offset) ix (omega arith) (omega arith) t) (lowest w 8 (above * 2 ^ 4 + register_code r) offset (omega arith) la t)) (register_at w 8 above offset r (omega arith) la t)))
 complete w (Store (OffsetR3 ix) r) h =
     let lr = (by_register.stands r).0 in
     let lx = (by_index.stands ix).0 in
@@ -220,7 +220,7 @@ complete w (Store (PostIncrement ix step) r) h =
     let above = 0b00001101 * 2 ^ 2 + index_code ix in
     let same = index_at w 12 0b00001101 (register_code r * 2 ^ 8 + step) ix (omega arith) (omega arith) in
     row_says 21 (lit< tt) w (omega arith)
-    ((λ t. Some (Store (stepped_up w (above * 2 ^ 4 + register_code r) step ix (index (bits w 12 2)) (omega arith) ls same t) (register_at w 8 above step r (omega arith) (omega arith) t))))
+    (λ t. Some (Store (stepped_up w (above * 2 ^ 4 + register_code r) step ix (index (bits w 12 2)) (omega arith) ls same t) (register_at w 8 above step r (omega arith) (omega arith) t)))
 complete w (Store (PreDecrement ix step) r) h =
     let lr = (by_register.stands r).0 in
     let lx = (by_index.stands ix).0 in
@@ -231,14 +231,13 @@ complete w (Store (PreDecrement ix step) r) h =
     let held = 2 ^ 7 + (2 ^ 7 - step) in
     let same = index_at w 12 0b00001101 (register_code r * 2 ^ 8 + held) ix (omega arith) (omega arith) in
     row_says 21 (lit< tt) w (omega arith)
-    ((λ t. Some (Store (stepped_down w (above * 2 ^ 4 + register_code r) step ix (index (bits w 12 2)) (omega arith) one top same t) (register_at w 8 above held r (omega arith) (omega arith) t))))
+    (λ t. Some (Store (stepped_down w (above * 2 ^ 4 + register_code r) step ix (index (bits w 12 2)) (omega arith) one top same t) (register_at w 8 above held r (omega arith) (omega arith) t)))
 complete w (StoreImmediate target value) h =
     let range = and_parts (ltb target (2 ^ 8)) (ltb value (2 ^ 8)) h.fields in
     let la = ltb-true target (2 ^ 8) range.0 in
     let lv = ltb-true value (2 ^ 8) range.1 in
-    let low_held = lowest w 8 (0xFF - value) (0xFF - target) (omega arith) (omega arith) in
     let high_held = field w 8 8 0 (0xFF - value) (0xFF - target) (omega arith) (omega arith) (omega arith) in
-    let low-back : inverted w 8 ≡ target = omega arith in
+    let low-back = inverted_low w 8 (0xFF - value) target (omega arith) la in
     let high-back : inverted_bits w 8 8 ≡ value = omega arith in
     row_says 24 (lit< tt) w (omega arith)
-    ((λ t. Some (StoreImmediate (low-back t) (high-back t))))
+    (λ t. Some (StoreImmediate (low-back t) (high-back t)))
