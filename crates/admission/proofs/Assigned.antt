@@ -1,7 +1,7 @@
 -- The records that are found for the background and the levels are the only ones of their kinds.
 -- Assumes nothing.
 use Rattle.std.proofs.Common.{◌≡◌, ℕ, zero, suc, ◌+◌, ◌<◌, Bool, true, false, cond, ◌⊎◌, List, [], ◌∷◌, is_some, Some, None, Decides, Option, sym, refl, ap, ◌∙◌, subst, inl, inr, ⊎_elim, arith}
-use Rattle.std.proofs.lemmas.Bool.{false≢true, false_from_ne_true, cases_eq, cases_order}
+use Rattle.std.proofs.lemmas.Bool.{false_from_ne_true, cases_eq, cases_order}
 use Rattle.std.proofs.lemmas.Bool.Decides.{Decides-eqb, Decides-and, Decides-or, Decides-not, not_from_Decides}
 use Rattle.std.proofs.lemmas.Option.{none-some, same_Some}
 use Rattle.platform.specs.Description.{vector, InLimits}
@@ -63,8 +63,7 @@ module _ (P : Program) where
         not_from_Decides (stray T r k) (decides_stray k) (none_gives (stray T r) (records T + 1) (gone (lowest (stray T r) (records T + 1)) none) k (omega arith)) h
       where
         gone : (o : Option ℕ) → is_some o ≡ false → o ≡ None
-        gone None e = refl
-        gone (Some x) e = absurd (false≢true (sym e))
+        gone o e = grind arith
 
     none_other : ((k : ℕ) → Another k → ⊥) → strays T r ≡ false
     none_other none = ap is_some (none_from (stray T r) (records T + 1) (λ k lt. false_from_ne_true (stray T r k) (λ t. none k ((decides_stray k).0 t))))

@@ -10,7 +10,6 @@ use Rattle.words.specs.declared.instructions.Instruction.{Instruction}
 use Rattle.platform.specs.Description.{in_limits}
 use Rattle.admission.specs.Admission.{roles, breach, fault, unless_at, checked, depth_of, admission}
 use Rattle.admission.specs.Chain.{broken_link}
-use Rattle.admission.specs.Instructions.{flow, permitted}
 use Rattle.admission.specs.Laws.{AllHold, FirstBreak, Judges}
 use Rattle.admission.specs.Program.{Program}
 use Rattle.admission.specs.Refusals.{rules, later_rules, rule_number, broken_rule, refusal}
@@ -100,12 +99,7 @@ module _ (P : Program) where
     says = ap (λ r. unwrap_or (result_err r) (Broken (Line Word))) (cond-false (eqb (line L p) 0) (Ok tt) (word_checked (decoded (P.word p))) run)
 
     own : (d : Result Instruction DecodeError) → said d ≡ Undefined x → d ≡ Err x
-    own (Err y) e = cc
-    own (Ok i) e = absurd (by (permitted (flow i)) e)
-      where
-        by : (b : Bool) → unwrap_or (result_err (unless b Word)) (Broken (Line Word)) ≡ Undefined x → ⊥
-        by true e = cc
-        by false e = cc
+    own d e = grind arith
 
     whole : (◌≡◌ {A = Answer} (Err (fault (Line Word) P p)) (Err (record { breach = Undefined x; place = p }))) ↔ (decoded (P.word p) ≡ Err x)
     whole = (λ e. own (decoded (P.word p)) (sym says ∙ breach_in e), λ e. ap (λ b. Err (record { breach = b; place = p })) (says ∙ ap said e))

@@ -1,6 +1,6 @@
 -- What a search over the numbers from 0 on answers, said by the lowest that a test takes.
 -- Assumes nothing.
-use Rattle.std.proofs.Common.{zero-add, MatchOption, ◌≡◌, ℕ, ◌<◌, ◌≤◌, Bool, true, false, List, length, is_some, Some, None, Bor, Option, sym, refl, ap, ◌∙◌, subst, arith}
+use Rattle.std.proofs.Common.{◌≡◌, ℕ, ◌<◌, ◌≤◌, Bool, true, false, List, length, is_some, Some, None, Option, MatchOption, sym, refl, ap, ◌∙◌, subst, zero-add, arith, Bor}
 use denote.Param.Members.{Mut}
 use Rattle.std.specs.Bool.{MatchBool}
 use Rattle.std.specs.Fn.{Called, CalledAt}
