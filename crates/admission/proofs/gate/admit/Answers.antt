@@ -1,9 +1,7 @@
-use Rattle.std.proofs.Common.{◌≡◌, length, Err, sym, ap, ◌∙◌}
+use Rattle.std.proofs.Common.{length, Err, sym, ap, ◌∙◌}
 use Rattle.std.proofs.lemmas.Bool.{eqb-true, and_parts}
 use Rattle.std.proofs.lemmas.Result.{err_from_is_err_and}
-use Rattle.admission.specs.Admission.{fault}
 use Rattle.admission.specs.Program.{program}
-use Rattle.admission.specs.declared.rules.Rule.TheVariants.{Chain}
 use Rattle.admission.proofs.Judging.{later, out_of_limits, missized, unchained, chained_well}
 use Rattle.admission.proofs.gate.admit.Goals as goal
 
