@@ -1,17 +1,15 @@
 -- Pairs of bytes as numbers.
 -- Assumes nothing.
-use Rattle.std.proofs.Common.{◌≡◌, ℕ, zero, suc, ◌+◌, ◌*◌, ◌/◌, List, map, length, take, drop, refl, ap, ◌∙◌, lit<, add-zero, slice_index, arith}
-use Rattle.std.proofs.lemmas.List.{drop-drop, get_or-take, get_or-drop}
+use Rattle.std.proofs.Common.{◌≡◌, ℕ, zero, suc, ◌+◌, ◌*◌, ◌/◌, List, map, length, take, drop, refl, arith}
+use Rattle.std.proofs.lemmas.Grind.{common_steps}
+use Rattle.std.proofs.lemmas.List.{drop-drop}
 use Rattle.std.specs.Int.{w16, from_be_bytes}
 use Rattle.std.specs.List.{range_with_len}
 use Rattle.std.specs.Simd.{first_chunks}
 use Rattle.job.specs.Jobs.{number_at, numbers}
 
 first_number : (a : ℕ) (bytes : List ℕ) → from_be_bytes w16 (take 2 (drop a bytes)) ≡ number_at bytes a
-first_number a bytes =
-    let high = get_or-take 2 (drop a bytes) 0 0 (lit< tt) ∙ get_or-drop a bytes 0 0 ∙ ap (slice_index bytes) (add-zero a) in
-    let low = get_or-take 2 (drop a bytes) 1 0 (lit< tt) ∙ get_or-drop a bytes 1 0 in
-    omega arith
+first_number a bytes = grind (arith, common_steps)
 
 from_pairs : (n a : ℕ) (bytes : List ℕ) → map (from_be_bytes w16) (first_chunks 2 n (drop (2 * a) bytes)) ≡ map (λ k. number_at bytes (2 * k)) (range_with_len a n)
 from_pairs zero a bytes = refl

@@ -22,13 +22,10 @@ abbrev number : Option (ℕ × ℕ) → ℕ
 number None = 0
 number (Some log) = log.0
 
-late : (e : StoreError) → 29 ≤ store_number e
-late Size = omega arith
-late (WideWord p) = omega arith
-
-not_length : (e : StoreError) → store_number e ≤ 30
-not_length Size = omega arith
-not_length (WideWord p) = omega arith
+-- above the numbers of rules, and below that of a length
+store_number_bounds : (e : StoreError) → (29 ≤ store_number e) × (store_number e ≤ 30)
+store_number_bounds Size = (omega arith, omega arith)
+store_number_bounds (WideWord p) = (omega arith, omega arith)
 
 module _ (job : List ℕ) where
   module _ (sized : WellSized job) where
@@ -58,11 +55,11 @@ module _ (job : List ℕ) where
   -- a job whose words are no store
   says_store : WellSized job → (e : StoreError) → bytes_tested (word_bytes job) ≡ Err e → Says job (Err (Store e))
   says_store sized x at = record {
-    length = (λ e. absurd (omega (arith, ap number e, not_length x)), λ h. absurd (h sized));
+    length = (λ e. absurd (omega (arith, ap number e, store_number_bounds x)), λ h. absurd (h sized));
     size = (λ e. (sized, t.size.0 (ap store_refusal at ∙ e)), λ h. sym (ap store_refusal at) ∙ t.size.1 h.1);
     wide = λ p. (λ e. (sized, (t.wide p).0 (ap store_refusal at ∙ e)), λ h. sym (ap store_refusal at) ∙ (t.wide p).1 h.1);
     admits = λ d. (λ e. cc, λ h. absurd (fails h.0.1));
-    refuses = λ rule p. (λ e. absurd (omega (arith, ap number e, few_rules rule, late x)), λ h. absurd (fails h.0.1));
+    refuses = λ rule p. (λ e. absurd (omega (arith, ap number e, few_rules rule, store_number_bounds x)), λ h. absurd (fails h.0.1));
     means = reads_back job;
   }
     where

@@ -1,9 +1,9 @@
 -- What is read from a job is what was written.
 -- Assumes nothing.
-use Rattle.std.proofs.Common.{◌≡◌, ℕ, zero, suc, ◌*◌, ◌/◌, ◌<◌, List, [], ◌∷◌, ◌++◌, length, map, get_or, take, drop, sym, refl, ap, ◌∙◌, ⊎_elim, not-suc-le-zero, arith}
+use Rattle.std.proofs.Common.{◌≡◌, ℕ, zero, suc, ◌*◌, ◌/◌, ◌<◌, List, [], ◌∷◌, ◌++◌, length, map, get_or, take, drop, sym, refl, ap, ◌∙◌, not-suc-le-zero, arith}
 use mathlib.Core.Path.{fun_ext}
 use Rattle.std.proofs.lemmas.List.{take_at, drop_at, drop-drop, get_or_past}
-use Rattle.std.proofs.lemmas.Bool.{cases_lt, cond-true, cond-false, lt-ltb, le-ltb}
+use Rattle.std.proofs.lemmas.Bool.Decides.{nat_tests}
 use Rattle.std.specs.Int.{w16, from_be_bytes}
 use Rattle.std.specs.List.{flat_map}
 use Rattle.std.specs.Simd.{first_chunks}
@@ -38,12 +38,7 @@ word_back (x ∷ xs) (suc k) lt =
     ap (λ j. big_endian (drop j (flat_map three_bytes (x ∷ xs)))) three ∙ word_back xs k (omega arith)
 
 words_back : (xs : List ℕ) (a : ℕ) → formed (flat_map three_bytes xs) a ≡ listed xs a
-words_back xs a =
-    let long = long_three xs in
-    let third : length (flat_map three_bytes xs) / 3 ≡ length xs = omega arith in
-    ⊎_elim (λ lt. cond-true _ _ _ (lt-ltb a (length (flat_map three_bytes xs) / 3) (omega arith)) ∙ word_back xs a lt)
-    (λ ge. cond-false _ _ _ (le-ltb a (length (flat_map three_bytes xs) / 3) (omega arith)) ∙ sym (get_or_past xs a 0 ge))
-    (cases_lt a (length xs))
+words_back xs a = grind (arith, nat_tests, long_three xs, word_back xs a, get_or_past xs a 0)
 
 module _ (depth v0 v1 v2 : ℕ) (words T L : List ℕ) where
   abbrev job : List ℕ
