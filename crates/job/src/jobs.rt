@@ -51,8 +51,8 @@ impl<'a> Job<'a> {
         if job.len() < HEADER || job.len() > LONGEST {
             return Err(Refusal::Length);
         }
-        let words = number_at(job, 0) as usize;
-        let numbers = number_at(job, 10) as usize;
+        let words = usize::from(number_at(job, 0));
+        let numbers = usize::from(number_at(job, 10));
         let table = HEADER + 3 * words;
         let lines = table + 2 * numbers;
         if job.len() != lines + 2 * words {

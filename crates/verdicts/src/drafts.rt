@@ -158,10 +158,7 @@ fn check_verdict(
     Ok(())
 }
 
-pub(crate) fn check_all(
-    rt: &(impl Abort + AllocGlobal),
-    cases: &[Case<'_>],
-) -> Result<(), Fail> {
+pub(crate) fn check_all(rt: &(impl Abort + AllocGlobal), cases: &[Case<'_>]) -> Result<(), Fail> {
     for case in cases {
         check_verdict(rt, *case)?;
     }
