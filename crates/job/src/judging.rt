@@ -17,8 +17,9 @@ impl Job<'_> {
     fn check_rules(&self) -> Result<u16, Fault>
         requires { is_ok (bytes_tested self.now.words.now) ≡ true }
         ensures { let words = self.now.words.now in
-            result ≡ admission (program self.now.description (length words / 3) (formed words)
-            (numbers self.now.table.now) (numbers self.now.lines.now)) }
+            let table = numbers self.now.table.now in
+            let lines = numbers self.now.lines.now in
+            result ≡ admission (program self.now.description (length words / 3) (formed words) table lines) }
     {
         let store = ByteStore::new(self.words);
         let table = numbers_of::<MOST_NUMBERS>(self.table);
