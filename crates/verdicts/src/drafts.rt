@@ -45,12 +45,10 @@ struct Draft {
 }
 
 fn put<T: Drop>(numbers: &mut [T], index: usize, number: T) -> Result<(), Fail> {
-    if let Some(place) = numbers.get_mut(index) {
-        *place = number;
-        Ok(())
-    } else {
-        Err(Fail::new("no such number to change"))
-    }
+    *numbers
+        .get_mut(index)
+        .ok_or(Fail::new("no such number to change"))? = number;
+    Ok(())
 }
 
 fn write_numbers(bytes: &mut Vec<u8>, numbers: &[u16]) -> Result<(), AllocError> {
