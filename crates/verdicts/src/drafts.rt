@@ -47,7 +47,7 @@ struct Draft {
 fn put<T: Drop>(numbers: &mut [T], index: usize, number: T) -> Result<(), Fail> {
     *numbers
         .get_mut(index)
-        .ok_or(Fail::new("no such number to change"))? = number;
+        .ok_or_else(|| Fail::new("no such number to change"))? = number;
     Ok(())
 }
 

@@ -28,7 +28,7 @@ pub record Naming (X : Type 0) : Type 0 where
 
 -- what is found under a code has that code
 pub find_code : {X : Type 0} (code : X → ℕ) (xs : List X) (n : ℕ) (x : X) → find code xs n ≡ Some x → code x ≡ n
-find_code code [] n x e = let z : ◌≡◌ {A = ℕ} 0 1 = cc in absurd (omega arith)
+find_code code [] n x e = grind arith
 find_code code (y ∷ xs) n x e = grind (arith, find_code code xs n x)
 
 module _ {X : Type 0} (N : Naming X) where

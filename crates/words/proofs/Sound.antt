@@ -36,6 +36,9 @@ said w x i e form fields sum =
     let same : x ≡ i = cc in
     subst (WordOf w) same (record { form = form; fields = fields; unread = 0; four = lit< tt; sum = sum })
 
+word_of_lem : (w : ℕ) (x : Instruction) → formed x ≡ true → fields_fit x ≡ true → w ≡ word_with 0 x → WordOf w x
+word_of_lem w x form fields sum = said w x x refl form fields sum
+
 -- a row that asks for more than its prefix gives nothing where that is not met
 met : (b : Bool) (r : Option Instruction) (i : Instruction) → given b r ≡ Some i → (b ≡ true) × (r ≡ Some i)
 met b r i e = grind arith

@@ -27,7 +27,7 @@ fn address_fits(address: MemoryAddress) -> bool
 {
     match address {
         MemoryAddress::PostIncrement(_, step) => step <= 127,
-        MemoryAddress::PreDecrement(_, step) => 1 <= step && step <= 128,
+        MemoryAddress::PreDecrement(_, step) => (1..=128).contains(&step),
         _ => true,
     }
 }

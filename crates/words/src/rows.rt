@@ -2,6 +2,8 @@
 // held inverted.
 ghost use Rattle.std.specs.Prelude.{◌≡◌};
 ghost use Rattle.std.specs.Option.{ok_or};
+ghost use Rattle.words.specs.Bits.{bits, inverted};
+ghost use Rattle.words.specs.Codes.{register};
 ghost use Rattle.words.specs.Decoding.{operation_in, stepped, store_immediate, store, store_direct, store_offset, store_stepped, store_r3, alu_memory, alu_direct, alu_r3, alu_stepped, alu_offset, alu_immediate, alu_registers, freq, jump_ip, jump_target, jump};
 ghost use Rattle.words.specs.declared.errors.DecodeError.TheVariants.{Reserved};
 
@@ -25,6 +27,20 @@ fn operation_in(form: Form, code: u32) -> Result<Operation, DecodeError>
     }
 }
 
+// reg:4 in bits 11 to 8
+fn register_field(word: u32) -> Register
+    ensures { result ≡ register (bits word 8 4) }
+{
+    Register::of_code(word / 0x100 % 16)
+}
+
+// n_:8 in bits 7 to 0
+fn inverted_byte(word: u32) -> u8
+    ensures { result ≡ inverted word 8 }
+{
+    (0xFF - word % 0x100) as u8
+}
+
 // Bit 7 tells a step to add after the access from one to subtract before it, which is held as 128 less the step.
 fn stepped_address(word: u32, index: IndexRegister) -> MemoryAddress
     ensures { result ≡ stepped word index }
@@ -42,8 +58,8 @@ pub(crate) fn store_immediate(word: u32) -> Instruction
     ensures { result ≡ store_immediate word }
 {
     Instruction::StoreImmediate {
-        target: (0xFF - word % 0x100) as u8,
-        value: (0xFF - word / 0x100 % 0x100) as u8,
+        target: inverted_byte(word),
+        value: inverted_byte(word / 0x100),
     }
 }
 
@@ -51,7 +67,7 @@ pub(crate) fn store_immediate(word: u32) -> Instruction
 fn store(word: u32, target: MemoryAddress) -> Instruction
     ensures { result ≡ store word target }
 {
-    let source = Register::of_code(word / 0x100 % 16);
+    let source = register_field(word);
     Instruction::Store { target, source }
 }
 
@@ -59,7 +75,7 @@ fn store(word: u32, target: MemoryAddress) -> Instruction
 pub(crate) fn store_direct(word: u32) -> Instruction
     ensures { result ≡ store_direct word }
 {
-    store(word, MemoryAddress::Direct((0xFF - word % 0x100) as u8))
+    store(word, MemoryAddress::Direct(inverted_byte(word)))
 }
 
 // 00001011 ix:2 reg:4 offset:8
@@ -91,7 +107,7 @@ fn alu_memory(word: u32, source: MemoryAddress) -> Result<Instruction, DecodeErr
     ensures { result ≡ ok_or (alu_memory word source) Reserved }
 {
     let operation = operation_in(Form::Memory, word / 0x1000 % 32)?;
-    let register = Register::of_code(word / 0x100 % 16);
+    let register = register_field(word);
     Ok(Instruction::AluMemory {
         operation,
         register,
@@ -103,7 +119,7 @@ fn alu_memory(word: u32, source: MemoryAddress) -> Result<Instruction, DecodeErr
 pub(crate) fn alu_direct(word: u32) -> Result<Instruction, DecodeError>
     ensures { result ≡ ok_or (alu_direct word) Reserved }
 {
-    alu_memory(word, MemoryAddress::Direct((0xFF - word % 0x100) as u8))
+    alu_memory(word, MemoryAddress::Direct(inverted_byte(word)))
 }
 
 // 00011 op:5 reg:4 111111 ix:2
@@ -137,8 +153,8 @@ pub(crate) fn alu_immediate(word: u32) -> Result<Instruction, DecodeError>
     let operation = operation_in(Form::Immediate, word / 0x1000 % 16)?;
     Ok(Instruction::AluImmediate {
         operation,
-        register: Register::of_code(word / 0x100 % 16),
-        value: (0xFF - word % 0x100) as u8,
+        register: register_field(word),
+        value: inverted_byte(word),
     })
 }
 
@@ -160,7 +176,7 @@ pub(crate) fn alu_registers(word: u32) -> Result<Instruction, DecodeError>
             operation,
             result,
             op1,
-            op2: Register::of_code(word / 0x100 % 16),
+            op2: register_field(word),
         })
     } else {
         Err(DecodeError::Reserved)
