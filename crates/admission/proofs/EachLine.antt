@@ -1,9 +1,9 @@
 -- What the loop over the lines finds, by one rule.
 -- Assumes nothing.
-use Rattle.std.proofs.Common.{◌≡◌, ℕ, ◌+◌, ◌<◌, Bool, not, [], ◌∷◌, length, is_ok, None, Ok, Err, Result, MatchResult, unwrap_or, sym, ap, ◌∙◌, arith}
+use Rattle.std.proofs.Common.{◌≡◌, ℕ, ◌<◌, Bool, not, [], ◌∷◌, length, is_ok, None, Ok, Err, Result, MatchResult, unwrap_or, sym, ap, ◌∙◌, arith}
 use Rattle.std.specs.Result.{result_err}
 use Rattle.platform.specs.Lowest.{lowest}
-use Rattle.platform.proofs.Search.{none_more, found}
+use Rattle.platform.proofs.Search.{found}
 use Rattle.admission.specs.Admission.{sound, fault, unless_at, checked}
 use Rattle.admission.specs.Program.{Program}
 use Rattle.admission.specs.Tests.{line_checked}
@@ -28,13 +28,6 @@ module _ (rule : LineRule) (P : Program) where
   WithPlace a m r = MatchResult r (λ u. m ≡ Ok u) (λ b. m ≡ Err (record { breach = b; place = a }))
 
   module _ (a : ℕ) (r : Result (Unit {0}) Breach) (m : Checked) (before : lowest breaks a ≡ None) where
-    pub passes_more : (u : Unit {0}) → r ≡ answer a → WithPlace a m r → m ≡ Ok u → lowest breaks (a + 1) ≡ None
-    passes_more u = by r
-      where
-        by : (r : Result (Unit {0}) Breach) → r ≡ answer a → WithPlace a m r → m ≡ Ok u → lowest breaks (a + 1) ≡ None
-        by (Ok v) is h ok = none_more breaks a before (ap (λ x. not (is_ok x)) (sym is))
-        by (Err b) is h ok = grind arith
-
     pub breaks_at : (f : Fault) → a < length P.lines → r ≡ answer a → WithPlace a m r → m ≡ Err f → ◌≡◌ {A = Checked} (Err f) (checked (Line rule ∷ []) P (Ok tt))
     breaks_at f lt = by r
       where
@@ -44,6 +37,3 @@ module _ (rule : LineRule) (P : Program) where
             let at = found breaks a (length P.lines) lt before (ap (λ x. not (is_ok x)) (sym is)) in
             let same = ap (λ x. unwrap_or (result_err x) (Broken (Line rule))) (sym is) in
             sym err ∙ h ∙ ap (λ x. Err (record { breach = x; place = a })) (sym same) ∙ sym (ap (λ o. unless_at {X = Unit {0}} o (fault (Line rule) P) (Ok tt)) at)
-
-  pub passes : lowest breaks (length P.lines) ≡ None → ◌≡◌ {A = Checked} (Ok tt) (checked (Line rule ∷ []) P (Ok tt))
-  passes none = sym (ap (λ o. unless_at {X = Unit {0}} o (fault (Line rule) P) (Ok tt)) none)

@@ -15,7 +15,7 @@ use Rattle.admission.specs.Program.{Program}
 use Rattle.admission.specs.Refusals.{rules, later_rules, rule_number, broken_rule, refusal}
 use Rattle.admission.specs.Rules.{Holds, Deepest}
 use Rattle.admission.specs.Tables.{line}
-use Rattle.admission.specs.Tests.{sized, unless, word_checked, if_defined, owned_checked, line_breach}
+use Rattle.admission.specs.Tests.{sized, word_checked, if_defined, owned_checked, line_breach}
 use Rattle.admission.specs.declared.faults.Breach.{Breach}
 use Rattle.admission.specs.declared.faults.Breach.TheVariants.{Broken, Undefined}
 use Rattle.admission.specs.declared.faults.Fault.{Fault}
@@ -37,10 +37,6 @@ ok_err {d} {f} e = cc
 
 same_ok : {c d : ℕ} → ◌≡◌ {A = Answer} (Ok c) (Ok d) → c ≡ d
 same_ok {c} {d} e = cc
-
--- the rule that a line's breach breaks
-of_unless : (b : Bool) (rule : LineRule) → broken_rule (unwrap_or (result_err (unless b rule)) (Broken (Line rule))) ≡ Line rule
-of_unless b rule = grind arith
 
 of_word : (d : Result Instruction DecodeError) → broken_rule (unwrap_or (result_err (word_checked d)) (Broken (Line Word))) ≡ Line Word
 of_word d = grind arith

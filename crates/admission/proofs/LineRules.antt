@@ -19,7 +19,7 @@ use Rattle.admission.specs.Program.{Program}
 use Rattle.admission.specs.Roles.{is}
 use Rattle.admission.specs.Rules.{Owned, SoundOwner, At, Permitted, SoundStack, Leads, Leaves, GoesOn, SoundSuccessors, MayCall, SoundCall, WritesStat, EntryLine, kind_at, height_at, owner_of}
 use Rattle.admission.specs.Tables.{entry, kind, need, line, owner, height}
-use Rattle.admission.specs.Tests.{owner_sound, stack_sound, moves, leads, if_some, next_sound, target_sound, may_call, callable, callee_sound, call_sound, is_stat, writes_stat, stat_sound, word_checked, if_defined, owned_checked, line_checked}
+use Rattle.admission.specs.Tests.{owner_sound, stack_sound, moves, leads, if_some, next_sound, target_sound, may_call, callable, callee_sound, call_sound, writes_stat, stat_sound, word_checked, if_defined, owned_checked, line_checked}
 use Rattle.admission.specs.declared.faults.Breach.{Breach}
 use Rattle.admission.specs.declared.kinds.Kind.{Kind}
 use Rattle.admission.specs.declared.kinds.Kind.TheVariants.{Background, Quiet, Interrupt, Open}
@@ -46,9 +46,6 @@ moving f = grind arith
 defined : (d : Decoded) (rule : LineRule) (test : Instruction → Bool) {X : Type 0} → ((i : Instruction) → d ≡ Ok i → Decides (test i) X) → (((i : Instruction) → d ≡ Ok i → ⊥) → X) → Decides (is_ok (if_defined d rule test)) X
 defined (Ok i) rule test with_it without = Decides-at _ (test i) (is_ok-unless (test i) rule) (with_it i refl)
 defined (Err e) rule test with_it without = (λ t. without (λ i h. err_ok h), λ x. refl)
-
-decides_is_stat : (r : Register) → Decides (is_stat r) (r ≡ Stat)
-decides_is_stat r = (λ t. grind arith, λ e. ap is_stat e)
 
 decides_writes_stat : (o : Option Register) → Decides (writes_stat o) (o ≡ Some Stat)
 decides_writes_stat o = (λ e. grind arith, λ e. ap writes_stat e)

@@ -54,11 +54,7 @@ impl Chain<'_> {
             background,
             levels: [level0, level1, level2],
         };
-        if self.has_stray(roles) {
-            None
-        } else {
-            Some(roles)
-        }
+        (!self.has_stray(roles)).then_some(roles)
     }
 
     // The background's need, the word that an entry pushes, and the largest need of an interrupt routine.

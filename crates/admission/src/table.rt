@@ -1,5 +1,5 @@
 // The depth table, number by number.
-ghost use Rattle.std.specs.Prelude.{◌≡◌, ◌≤◌, slice_index};
+ghost use Rattle.std.specs.Prelude.{◌≡◌, ◌-◌, ◌*◌, ◌≤◌, slice_index};
 ghost use Rattle.admission.specs.Tables.{records, entry, kind, need, next};
 
 use crate::kinds::Kind;
@@ -24,30 +24,37 @@ impl Table<'_> {
         (self.numbers.len() / 4) as u16
     }
 
+    // The number that stands so many places before the end of a record.
+    fn number(&self, index: u16, back: usize) -> u16
+        ensures { result ≡ slice_index self.now.numbers.now (4 * index - back) }
+    {
+        number_at(self.numbers, (4 * usize::from(index)).saturating_sub(back))
+    }
+
     // Where the routine begins.
     pub(crate) fn entry(&self, index: u16) -> u16
         ensures { result ≡ entry self.now.numbers.now index }
     {
-        number_at(self.numbers, (4 * usize::from(index)).saturating_sub(3))
+        self.number(index, 3)
     }
 
     pub(crate) fn kind(&self, index: u16) -> Option<Kind>
         ensures { result ≡ kind self.now.numbers.now index }
     {
-        Kind::try_from(number_at(self.numbers, (4 * usize::from(index)).saturating_sub(2))).ok()
+        Kind::try_from(self.number(index, 2)).ok()
     }
 
     // The most stack words that the routine and its calls use.
     pub(crate) fn need(&self, index: u16) -> u16
         ensures { result ≡ need self.now.numbers.now index }
     {
-        number_at(self.numbers, (4 * usize::from(index)).saturating_sub(1))
+        self.number(index, 1)
     }
 
     // The index of the next record; what the table begins with counts as the next of 0.
     pub(crate) fn next(&self, index: u16) -> u16
         ensures { result ≡ next self.now.numbers.now index }
     {
-        number_at(self.numbers, 4 * usize::from(index))
+        self.number(index, 0)
     }
 }
