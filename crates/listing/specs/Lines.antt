@@ -3,7 +3,7 @@
 use Rattle.std.specs.Prelude.{ℕ, zero, suc, ◌/◌, List, [], ◌++◌, length, codes, decimal, Ok, Err, Result}
 use Rattle.words.specs.Decoding.{decoded}
 use Rattle.words.specs.Notation.{hexadecimal, instruction_text}
-use Rattle.words.specs.Refusals.{decode_number}
+use Rattle.words.specs.Refusals.{decode_error_text}
 use Rattle.words.specs.declared.errors.DecodeError.{DecodeError}
 use Rattle.words.specs.declared.instructions.Instruction.{Instruction}
 use Rattle.listing.specs.Images.{word_at, ending_of}
@@ -12,10 +12,10 @@ use Rattle.listing.specs.declared.errors.ImageError.{ImageError}
 use Rattle.listing.specs.declared.lines.Line.{Line}
 use Rattle.listing.specs.declared.tallies.Tally.{Tally}
 
--- the instruction, or the number of the refusal
+-- the instruction, or the refusal
 abbrev pub reading_text : Result Instruction DecodeError → List ℕ
 reading_text (Ok instruction) = instruction_text instruction
-reading_text (Err error) = codes "refused " ++ decimal (decode_number error)
+reading_text (Err error) = decode_error_text error
 
 -- the address and the word in hexadecimal, and what the word reads as
 abbrev pub line_text : Line → List ℕ

@@ -22,10 +22,7 @@ impl fmt::Display for Line {
         let Line { address, word } = *self;
         match decode(word) {
             Ok(instruction) => write!(f, "{address:04X} {word:06X} {instruction}"),
-            Err(error) => {
-                let number = error.number();
-                write!(f, "{address:04X} {word:06X} refused {number}")
-            }
+            Err(error) => write!(f, "{address:04X} {word:06X} {error}"),
         }
     }
 }

@@ -1,6 +1,8 @@
 // Why a word is not read, or an instruction not written.
-ghost use Rattle.std.specs.Prelude.{◌≡◌};
-ghost use Rattle.words.specs.Refusals.{decode_number, encode_number};
+ghost use Rattle.std.specs.Prelude.{◌≡◌, Some};
+ghost use Rattle.words.specs.Refusals.{decode_number, decode_error_text, encode_number};
+
+use std::fmt;
 
 #[derive(Clone, Copy, PartialEq, Eq, Debug)]
 pub enum DecodeError {
@@ -19,6 +21,14 @@ impl DecodeError {
             DecodeError::Reserved => 25,
             DecodeError::TooWide => 30,
         }
+    }
+}
+
+impl fmt::Display for DecodeError {
+    ghost output = { λ error. Some (decode_error_text error) };
+
+    fn fmt<W: fmt::Write>(&self, f: &mut fmt::Formatter<W>) -> fmt::Result {
+        write!(f, "refused {}", self.number())
     }
 }
 
