@@ -38,11 +38,13 @@ use Rattle.words.proofs.Names.{Naming, operation_stands, by_register, by_index, 
 some_one : {X : Type 0} (x y : X) → ◌≡◌ {A = Option X} (Some x) (Some y) → x ≡ y
 some_one x y e = cc
 
-coded : (D : Declared) → Bare D.parts → (N : Naming D.D) (x y : D.D) → sameb D x y ≡ nat_eq (N.code x) (N.code y)
-coded D bare N x y =
+code_decides : {X : Type 0} (N : Naming X) (x y : X) → Decides (nat_eq (N.code x) (N.code y)) (x ≡ y)
+code_decides N x y =
     let codes = unsigned_Decides (N.code x) (N.code y) in
-    let one : N.code x ≡ N.code y → x ≡ y = λ e. some_one x y (sym (N.stands x).1 ∙ ap (find N.code N.all) e ∙ (N.stands y).1) in
-    one_answer _ _ (same_true D bare x y, true_same D x y) (λ t. one (codes.0 t), λ e. codes.1 (ap N.code e))
+    (λ t. some_one x y (sym (N.stands x).1 ∙ ap (find N.code N.all) (codes.0 t) ∙ (N.stands y).1), λ e. codes.1 (ap N.code e))
+
+coded : (D : Declared) → Bare D.parts → (N : Naming D.D) (x y : D.D) → sameb D x y ≡ nat_eq (N.code x) (N.code y)
+coded D bare N x y = one_answer _ _ (same_true D bare x y, true_same D x y) (code_decides N x y)
 
 register_coded : (x y : Register) → sameb register_type.the_type x y ≡ nat_eq (register_code x) (register_code y)
 register_coded = coded register_type.the_type tt by_register
@@ -75,11 +77,6 @@ same_answer told codes e = grind arith
 
 pub told_by_code : (x y : Operation) → operation_test.ghosts.eq x y ≡ on operation_code nat_eq x y
 told_by_code x y = same_answer _ _ (agreed x y)
-
-code_decides : {X : Type 0} (N : Naming X) (x y : X) → Decides (nat_eq (N.code x) (N.code y)) (x ≡ y)
-code_decides N x y =
-    let codes = unsigned_Decides (N.code x) (N.code y) in
-    (λ t. some_one x y (sym (N.stands x).1 ∙ ap (find N.code N.all) (codes.0 t) ∙ (N.stands y).1), λ e. codes.1 (ap N.code e))
 
 pub same_code : (x y : Operation) → Decides (on operation_code nat_eq x y) (x ≡ y)
 same_code = code_decides by_operation
