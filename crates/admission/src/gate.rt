@@ -1,5 +1,5 @@
 // The gate in front of a core: all rules in their order.
-ghost use Rattle.std.specs.Prelude.{◌≡◌, Ok};
+ghost use Rattle.std.specs.Prelude.{◌≡◌, length, Ok};
 ghost use Rattle.admission.specs.Admission.{roles, depth_of, checked, admission};
 ghost use Rattle.admission.specs.Laws.{Judges};
 ghost use Rattle.admission.specs.Program.{program};
@@ -37,6 +37,7 @@ fn has_sizes(count: u16, table: &[u16], lines: &[u16]) -> bool
 impl Candidate<'_, '_> {
     // The rules that come after the chain.
     fn judge<S: Store>(&self, store: &S) -> Result<u16, Fault>
+        requires { length self.now.lines.now ≡ S.Store.count store.now }
         ensures { result ≡ checked later_rules (program_in self.now (S.Store.word store.now)) (Ok (depth_of (table_in self.now.chain) (roles (program_in self.now (S.Store.word store.now))))) }
     {
         self.check_records(RecordRule::Kinds)?;

@@ -1,5 +1,5 @@
 // The rules of lines, one after the other over all lines.
-ghost use Rattle.std.specs.Prelude.{◌≡◌, [], ◌∷◌, length, Ok};
+ghost use Rattle.std.specs.Prelude.{◌≡◌, ◌<◌, [], ◌∷◌, length, Ok};
 ghost use Rattle.words.specs.Decoding.{decoded};
 ghost use Rattle.admission.specs.Admission.{checked};
 ghost use Rattle.admission.specs.Instructions.{flow};
@@ -18,6 +18,14 @@ use crate::placed::Placed;
 use crate::rules::{LineRule, Rule};
 use platform::Store;
 use words::decode;
+
+// The word at an address. Nothing else here fetches, so no word is asked for that the store does not have.
+fn word_at<S: Store>(store: &S, address: u16) -> u32
+    requires { address < S.Store.count store.now }
+    ensures { result ≡ S.Store.word store.now address }
+{
+    store.fetch(address)
+}
 
 fn break_unless(sound: bool, rule: LineRule) -> Result<(), Breach>
     ensures { result ≡ unless sound rule }
@@ -137,11 +145,12 @@ impl Candidate<'_, '_> {
 
     // A rule of lines, at each line.
     fn check_lines<S: Store>(&self, rule: LineRule, store: &S) -> Result<(), Fault>
+        requires { length self.now.lines.now ≡ S.Store.count store.now }
         ensures { result ≡ checked (Line rule ∷ []) (program_in self.now (S.Store.word store.now)) (Ok tt) }
     {
         for index in 0..self.lines.len() {
             let address = index as u16;
-            self.check_line(rule, address, store.fetch(address))
+            self.check_line(rule, address, word_at(store, address))
                 .map_err(|breach| Fault {
                     breach,
                     place: address,
@@ -151,6 +160,7 @@ impl Candidate<'_, '_> {
     }
 
     pub(crate) fn check_all_lines<S: Store>(&self, store: &S) -> Result<(), Fault>
+        requires { length self.now.lines.now ≡ S.Store.count store.now }
         ensures { result ≡ checked line_rules (program_in self.now (S.Store.word store.now)) (Ok tt) }
     {
         self.check_lines(LineRule::Owner, store)?;
