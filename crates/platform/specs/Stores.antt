@@ -105,6 +105,11 @@ pub record Tests (Fits : Type 0) (n : ℕ) (word : ℕ → ℕ) (r : Result (Uni
 abbrev pub InRange : ℕ → Type 0
 InRange n = (1 ≤ n) × (n ≤ 8192)
 
+-- r judges whether two stores, which have n words together, are one store
+pub record TestsJoin (n : ℕ) (r : Result (Unit {0}) StoreError) : Type 0 where
+  pub passes : (r ≡ Ok tt) ↔ InRange n
+  pub size : (store_refusal r ≡ Some (29, 0)) ↔ (InRange n → ⊥)
+
 -- the bytes are a whole number of words
 abbrev pub InRangeOf3 : List ℕ → Type 0
 InRangeOf3 bytes = (n : ℕ) × (length bytes ≡ 3 * n) × InRange n

@@ -1,6 +1,7 @@
 // Two stores of any make, joined end to end.
-ghost use Rattle.std.specs.Prelude.{◌≡◌};
-ghost use Rattle.platform.specs.Stores.{join_tested, joined_count, joined_word};
+ghost use Rattle.std.specs.Prelude.{◌≡◌, ◌+◌};
+ghost use Rattle.platform.specs.Made.{first_of, second_of};
+ghost use Rattle.platform.specs.Stores.{join_tested, joined_count, joined_word, TestsJoin};
 
 use crate::errors::StoreError;
 use crate::numbers::count_fits;
@@ -15,7 +16,8 @@ pub struct JoinedStore<A, B> {
 impl<A: Store, B: Store> JoinedStore<A, B> {
     // Whether the two can be one store.
     pub fn test(first: &A, second: &B) -> Result<(), StoreError>
-        ensures { result ≡ join_tested (A.Store.count first.now) (B.Store.count second.now) }
+        ensures value { result ≡ join_tested (A.Store.count first.now) (B.Store.count second.now) }
+        ensures tests { TestsJoin (A.Store.count first.now + B.Store.count second.now) result }
     {
         if count_fits(usize::from(first.word_count()) + usize::from(second.word_count())) {
             Ok(())
@@ -26,16 +28,17 @@ impl<A: Store, B: Store> JoinedStore<A, B> {
 
     // The first store's words and then the second's; from what `test` refuses, the one word 0.
     pub fn new(first: A, second: B) -> JoinedStore<A, B>
-        ensures { result ≡ record { first = first; second = second } }
+        ensures first { first_of result ≡ first }
+        ensures second { second_of result ≡ second }
     {
         JoinedStore { first, second }
     }
 }
 
 impl<A: Store, B: Store> Store for JoinedStore<A, B> {
-    ghost count = { λ s. joined_count (A.Store.count s.first) (B.Store.count s.second) };
+    ghost count = { λ s. joined_count (A.Store.count (first_of s)) (B.Store.count (second_of s)) };
 
-    ghost word = { λ s. joined_word (A.Store.count s.first) (A.Store.word s.first) (B.Store.count s.second) (B.Store.word s.second) };
+    ghost word = { λ s. joined_word (A.Store.count (first_of s)) (A.Store.word (first_of s)) (B.Store.count (second_of s)) (B.Store.word (second_of s)) };
 
     fn word_count(&self) -> u16 {
         match JoinedStore::test(&self.first, &self.second) {

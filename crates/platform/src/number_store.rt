@@ -41,6 +41,8 @@ fn first_wide<N: Numbers>(count: usize, numbers: N) -> Option<usize>
 }
 
 impl<N: Numbers> NumberStore<N> {
+    ghost use Rattle.platform.specs.Made.{numbers_of};
+
     // Whether the numbers can be a store.
     pub fn test(numbers: N) -> Result<(), StoreError>
         ensures value { result ≡ tested_by N.reading (N.given numbers) }
@@ -58,7 +60,7 @@ impl<N: Numbers> NumberStore<N> {
 
     // The store of these numbers; from what `test` refuses, the one word 0.
     pub fn new(numbers: N) -> NumberStore<N>
-        ensures { N.given result.numbers ≡ used_by N.reading (N.given numbers) }
+        ensures { N.given (numbers_of result) ≡ used_by N.reading (N.given numbers) }
     {
         match NumberStore::test(numbers) {
             Ok(()) => NumberStore { numbers },
@@ -70,9 +72,11 @@ impl<N: Numbers> NumberStore<N> {
 }
 
 impl<N: Numbers> Store for NumberStore<N> {
-    ghost count = { λ s. N.reading.count (N.given s.numbers) };
+    ghost use Rattle.platform.specs.Made.{numbers_of};
 
-    ghost word = { λ s. N.reading.number (N.given s.numbers) };
+    ghost count = { λ s. N.reading.count (N.given (numbers_of s)) };
+
+    ghost word = { λ s. N.reading.number (N.given (numbers_of s)) };
 
     fn word_count(&self) -> u16 {
         self.numbers.count().unwrap() as u16
