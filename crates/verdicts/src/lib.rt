@@ -1,4 +1,4 @@
-// Jobs with verdicts worked out by hand. It holds tests alone.
+// Jobs, and programs in stores of each make, with verdicts worked out by hand. It holds tests alone.
 #![tactic(auto)]
 
 #[cfg(test)]
@@ -13,5 +13,7 @@ mod opcodes;
 mod order;
 #[cfg(test)]
 mod sizes;
+#[cfg(test)]
+mod stores;
 #[cfg(test)]
 mod tables;

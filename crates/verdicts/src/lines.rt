@@ -38,6 +38,7 @@ fn rule_9_stack_use(rt: HostRuntime) -> Result<(), Fail> {
             ("RET at height 1", &[Word(7, RET)], "refused 9 at 7"),
             ("RET in the background", &[Word(5, RET)], "refused 9 at 5"),
             ("RET in an interrupt", &[Word(1, RET)], "refused 9 at 1"),
+            ("RETI in the background", &[Word(5, RETI)], "refused 9 at 5"),
             (
                 "RETI in a quiet routine",
                 &[Word(8, RETI)],
@@ -291,6 +292,11 @@ fn rule_12_stat_in_routines(rt: HostRuntime) -> Result<(), Fail> {
                 "refused 12 at 6",
             ),
             (
+                "CMVS",
+                &[Word(6, CMVS_TO_STAT), Word(7, NOP), Line(7, 64)],
+                "refused 12 at 6",
+            ),
+            (
                 "MUL",
                 &[Word(6, MUL_TO_STAT), Word(7, NOP), Line(7, 64)],
                 "refused 12 at 6",
@@ -306,13 +312,68 @@ fn rule_12_stat_in_routines(rt: HostRuntime) -> Result<(), Fail> {
                 "admitted 3",
             ),
             (
-                "CMP has no destination",
+                "stat is a source",
+                &[Word(6, MOVE_STAT_TO_MEMORY), Word(7, NOP), Line(7, 64)],
+                "admitted 3",
+            ),
+        ],
+    )
+}
+
+// 6 is the word shown, 7 NOP, 8 RET
+#[test]
+fn rule_12_stat_from_memory(rt: HostRuntime) -> Result<(), Fail> {
+    check_all(
+        &rt,
+        &[
+            (
+                "page 0",
+                &[Word(6, MOVE_FROM_PAGE_0), Word(7, NOP), Line(7, 64)],
+                "refused 12 at 6",
+            ),
+            (
+                "offset",
+                &[Word(6, MOVE_FROM_OFFSET), Word(7, NOP), Line(7, 64)],
+                "refused 12 at 6",
+            ),
+            (
+                "step",
+                &[Word(6, MOVE_FROM_STEP), Word(7, NOP), Line(7, 64)],
+                "refused 12 at 6",
+            ),
+            (
+                "r3",
+                &[Word(6, MOVE_FROM_R3), Word(7, NOP), Line(7, 64)],
+                "refused 12 at 6",
+            ),
+        ],
+    )
+}
+
+// 6 is the word shown, 7 NOP, 8 RET
+#[test]
+fn rule_12_no_destination(rt: HostRuntime) -> Result<(), Fail> {
+    check_all(
+        &rt,
+        &[
+            (
+                "CMP",
                 &[Word(6, CMP_STAT), Word(7, NOP), Line(7, 64)],
                 "admitted 3",
             ),
             (
-                "stat is a source",
-                &[Word(6, MOVE_STAT_TO_MEMORY), Word(7, NOP), Line(7, 64)],
+                "CMPA",
+                &[Word(6, CMPA_STAT), Word(7, NOP), Line(7, 64)],
+                "admitted 3",
+            ),
+            (
+                "TSTB",
+                &[Word(6, TSTB_STAT), Word(7, NOP), Line(7, 64)],
+                "admitted 3",
+            ),
+            (
+                "a comparison's third field",
+                &[Word(6, CMP_STAT_THRICE), Word(7, NOP), Line(7, 64)],
                 "admitted 3",
             ),
         ],

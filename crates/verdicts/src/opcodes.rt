@@ -55,6 +55,21 @@ pub(crate) const RESERVED: u32 = 0x0B_EFFF;
 // MOVE stat, #0x20
 pub(crate) const MOVE_TO_STAT: u32 = 0x0E_AADF;
 
+// MOVE stat, 0x00
+pub(crate) const MOVE_FROM_PAGE_0: u32 = 0x04_AAFF;
+
+// MOVE stat, (i0, 0x05)
+pub(crate) const MOVE_FROM_OFFSET: u32 = 0x18_AA05;
+
+// MOVE stat, (i0, 0x05)+
+pub(crate) const MOVE_FROM_STEP: u32 = 0x10_AA05;
+
+// MOVE stat, (i0, r3)
+pub(crate) const MOVE_FROM_R3: u32 = 0x06_AAFC;
+
+// CMVS stat, r0
+pub(crate) const CMVS_TO_STAT: u32 = 0x0D_3FEA;
+
 // CMVD stat, r0
 pub(crate) const CMVD_TO_STAT: u32 = 0x0D_2FEA;
 
@@ -63,6 +78,15 @@ pub(crate) const MUL_TO_STAT: u32 = 0x0C_EEDA;
 
 // CMP stat, #0x00
 pub(crate) const CMP_STAT: u32 = 0x0E_1AFF;
+
+// CMPA stat, #0x00
+pub(crate) const CMPA_STAT: u32 = 0x0E_0AFF;
+
+// TSTB stat, #0x20
+pub(crate) const TSTB_STAT: u32 = 0x0E_FADF;
+
+// CMP stat, r0, with stat in its third field too
+pub(crate) const CMP_STAT_THRICE: u32 = 0x0C_1AEA;
 
 // MOVE 0x00, stat
 pub(crate) const MOVE_STAT_TO_MEMORY: u32 = 0x01_BAFF;
