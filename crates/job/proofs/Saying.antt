@@ -49,6 +49,7 @@ module _ (job : List ℕ) where
     wide = λ p. (λ e. absurd (omega (arith, ap number e)), λ h. absurd (short h.0));
     admits = λ d. (λ e. cc, λ h. absurd (short h.0.0));
     refuses = λ rule p. (λ e. absurd (omega (arith, ap number e, few_rules rule)), λ h. absurd (short h.0.0));
+    carries = λ p e at. absurd (omega (arith, ap number at));
     means = reads_back job;
   }
 
@@ -60,6 +61,7 @@ module _ (job : List ℕ) where
     wide = λ p. (λ e. (sized, (t.wide p).0 (ap store_refusal at ∙ e)), λ h. sym (ap store_refusal at) ∙ (t.wide p).1 h.1);
     admits = λ d. (λ e. cc, λ h. absurd (fails h.0.1));
     refuses = λ rule p. (λ e. absurd (omega (arith, ap number e, few_rules rule, store_number_bounds x)), λ h. absurd (fails h.0.1));
+    carries = λ p e at. absurd (omega (arith, ap number at, store_number_bounds x));
     means = reads_back job;
   }
     where
@@ -75,8 +77,9 @@ module _ (job : List ℕ) where
     length = (λ e. absurd (omega (arith, low a (ap number e))), λ h. absurd (h sized));
     size = (λ e. absurd (omega (arith, low a (ap number e))), λ h. absurd (h.1 (t.passes.0 at).0));
     wide = λ p. (λ e. absurd (omega (arith, low a (ap number e))), λ h. absurd (omega (arith, (t.passes.0 at).1 p h.1.1, h.1.3)));
-    admits = λ d. (λ e. ((sized, t.passes.0 at), (j.admits d).0 (back a d e)), λ h. ap ruled ((j.admits d).1 h.1));
+    admits = λ d. (λ e. ((sized, t.passes.0 at), (j.admits d).0 (back a (Ok d) e)), λ h. ap ruled ((j.admits d).1 h.1));
     refuses = λ rule p. (λ e. ((sized, t.passes.0 at), (j.refuses rule p).0 (sym (same a) ∙ e)), λ h. same a ∙ (j.refuses rule p).1 h.1);
+    carries = λ p e at. let c = j.carries p e (sym (same a) ∙ at) in (λ h. c.0 (back a _ h), λ h. ap ruled (c.1 h));
     means = reads_back job;
   }
     where
@@ -91,9 +94,11 @@ module _ (job : List ℕ) where
       low (Ok d) e = omega arith
       low (Err f) e = let few = few_rules (broken_rule f.breach) in omega arith
 
-      back : (a : Result ℕ Fault) (d : ℕ) → ruled a ≡ Ok d → a ≡ Ok d
-      back (Ok c) d e = cc
-      back (Err f) d e = cc
+      back : (a b : Result ℕ Fault) → ruled a ≡ ruled b → a ≡ b
+      back (Ok c) (Ok d) e = cc
+      back (Ok c) (Err g) e = cc
+      back (Err f) (Ok d) e = cc
+      back (Err f) (Err g) e = cc
 
   says : Says job (verdict_of job)
   says = by (well_sized job) refl (bytes_tested (word_bytes job)) refl

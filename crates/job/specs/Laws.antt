@@ -1,12 +1,15 @@
 -- What judging a job promises, whatever way it goes about it.
 -- Assumes nothing.
 use Rattle.std.specs.Prelude.{◌≡◌, ℕ, ◌+◌, ◌*◌, ◌^◌, ◌<◌, ◌≤◌, ◌↔◌, List, length, Some, None, Ok, Err, Option, Result}
+use Rattle.words.specs.Decoding.{decoded}
+use Rattle.words.specs.declared.errors.DecodeError.{DecodeError}
 use Rattle.platform.specs.Stores.{formed, InRange, Narrow}
 use Rattle.admission.specs.Laws.{AllHold, FirstBreak}
 use Rattle.admission.specs.Refusals.{rule_number}
 use Rattle.admission.specs.Rules.{Deepest}
+use Rattle.admission.specs.declared.faults.Breach.TheVariants.{Undefined}
 use Rattle.admission.specs.declared.rules.Rule.{Rule}
-use Rattle.job.specs.Jobs.{word_count, table_count, word_bytes, program_of}
+use Rattle.job.specs.Jobs.{word_count, table_count, word_bytes, program_of, ruled}
 use Rattle.job.specs.Refusals.{refusal_log}
 use Rattle.job.specs.Writing.{written, meant}
 use Rattle.job.specs.declared.verdicts.Refusal.{Refusal}
@@ -41,4 +44,6 @@ module _ (job : List ℕ) where
     pub admits : (d : ℕ) → (v ≡ Ok d) ↔ (Readable × (AllHold (program_of job) × Deepest (program_of job) d))
     -- it is refused with a rule's number exactly if it can be read and breaks that rule first, and there first
     pub refuses : (rule : Rule) (p : ℕ) → (verdict_refusal v ≡ Some (rule_number rule, p)) ↔ (Readable × FirstBreak (program_of job) rule p)
+    -- a refusal of a word that is no instruction has the decoder's own in it, and no other has one
+    pub carries : (p : ℕ) (e : DecodeError) → verdict_refusal v ≡ Some (8, p) → (v ≡ ruled (Err (record { breach = Undefined e; place = p }))) ↔ (decoded (word p) ≡ Err e)
     pub means : ReadsBack

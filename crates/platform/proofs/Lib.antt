@@ -1,3 +1,2 @@
-pub mod Chunks
 pub mod Search
 pub mod Words

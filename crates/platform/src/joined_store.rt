@@ -13,13 +13,20 @@ pub struct JoinedStore<A, B> {
     second: B,
 }
 
+// How many words two stores have together.
+fn count_of_both<A: Store, B: Store>(first: &A, second: &B) -> usize
+    ensures { result ≡ A.Store.count first.now + B.Store.count second.now }
+{
+    usize::from(first.word_count()) + usize::from(second.word_count())
+}
+
 impl<A: Store, B: Store> JoinedStore<A, B> {
     // Whether the two can be one store.
     pub fn test(first: &A, second: &B) -> Result<(), StoreError>
         ensures value { result ≡ join_tested (A.Store.count first.now) (B.Store.count second.now) }
         ensures tests { TestsJoin (A.Store.count first.now + B.Store.count second.now) result }
     {
-        if count_fits(usize::from(first.word_count()) + usize::from(second.word_count())) {
+        if count_fits(count_of_both(first, second)) {
             Ok(())
         } else {
             Err(StoreError::Size)
@@ -41,18 +48,18 @@ impl<A: Store, B: Store> Store for JoinedStore<A, B> {
     ghost word = { λ s. joined_word (A.Store.count (first_of s)) (A.Store.word (first_of s)) (B.Store.count (second_of s)) (B.Store.word (second_of s)) };
 
     fn word_count(&self) -> u16 {
-        match JoinedStore::test(&self.first, &self.second) {
-            Ok(()) => self.first.word_count() + self.second.word_count(),
-            Err(_) => 1,
-        }
+        let count = count_of_both(&self.first, &self.second);
+        if count_fits(count) { count as u16 } else { 1 }
     }
 
     fn fetch(&self, address: u16) -> u32 {
         let border = self.first.word_count();
-        match JoinedStore::test(&self.first, &self.second) {
-            Ok(()) if address < border => self.first.fetch(address),
-            Ok(()) => self.second.fetch(address - border),
-            Err(_) => 0,
+        if !count_fits(count_of_both(&self.first, &self.second)) {
+            0
+        } else if address < border {
+            self.first.fetch(address)
+        } else {
+            self.second.fetch(address - border)
         }
     }
 }

@@ -65,10 +65,9 @@ impl Numbers for &[u8] {
     }
 
     fn at(&self, address: usize) -> u32 {
-        let (words, _) = self.as_chunks::<3>();
-        match words.get(address) {
-            Some([high, middle, low]) => u32::from_be_bytes([0, *high, *middle, *low]),
-            None => 0,
+        match self.get(address.saturating_mul(3)..) {
+            Some([high, middle, low, ..]) => u32::from_be_bytes([0, *high, *middle, *low]),
+            _ => 0,
         }
     }
 

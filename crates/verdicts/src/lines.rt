@@ -54,6 +54,11 @@ fn rule_9_stack_use(rt: HostRuntime) -> Result<(), Fail> {
                 &[Table(19, 1), Line(5, 161), Word(5, RETI)],
                 "refused 9 at 5",
             ),
+            (
+                "lowest address",
+                &[Word(8, RETI), Word(5, RET)],
+                "refused 9 at 5",
+            ),
         ],
     )
 }
@@ -70,6 +75,11 @@ fn rule_10_next_addresses(rt: HostRuntime) -> Result<(), Fail> {
             (
                 "after PUSH the same height",
                 &[Word(7, NOP), Line(7, 64)],
+                "refused 10 at 6",
+            ),
+            (
+                "after PUSH another owner",
+                &[Line(7, 33)],
                 "refused 10 at 6",
             ),
             (
@@ -115,19 +125,23 @@ fn rule_10_jumps(rt: HostRuntime) -> Result<(), Fail> {
                 &[Word(4, JUMP_4), Line(5, 0)],
                 "admitted 3",
             ),
-            (
-                "conditional, next wrong",
-                &[Word(5, JZS_4)],
-                "refused 10 at 5",
-            ),
-            (
-                "conditional, target wrong",
-                &[Word(4, JZS_6)],
-                "refused 10 at 4",
-            ),
-            ("conditional, both right", &[Word(4, JZS_4)], "admitted 3"),
         ],
     )
+}
+
+#[test]
+fn rule_10_jumps_on_a_condition(rt: HostRuntime) -> Result<(), Fail> {
+    for (jump_4, jump_6) in CONDITIONAL_JUMPS {
+        check_all(
+            &rt,
+            &[
+                ("next wrong", &[Word(5, jump_4)], "refused 10 at 5"),
+                ("target wrong", &[Word(4, jump_6)], "refused 10 at 4"),
+                ("both right", &[Word(4, jump_4)], "admitted 3"),
+            ],
+        )?;
+    }
+    Ok(())
 }
 
 #[test]
@@ -136,6 +150,16 @@ fn rule_11_targets(rt: HostRuntime) -> Result<(), Fail> {
         &rt,
         &[
             ("no entry", &[Word(4, CALL_7)], "refused 11 at 4"),
+            (
+                "no entry, and at height 0",
+                &[Word(4, CALL_8)],
+                "refused 11 at 4",
+            ),
+            (
+                "lowest address",
+                &[Word(6, CALL_6), Word(7, NOP), Line(7, 64), Word(4, CALL_7)],
+                "refused 11 at 4",
+            ),
             ("n", &[Word(4, CALL_9)], "refused 11 at 4"),
             ("an interrupt", &[Word(4, CALL_1)], "refused 11 at 4"),
             ("the background", &[Word(4, CALL_0)], "refused 11 at 4"),
@@ -199,6 +223,21 @@ fn rule_11_routines_call_routines(rt: HostRuntime) -> Result<(), Fail> {
                     Line(8, 192),
                 ],
                 "refused 11 at 6",
+            ),
+            (
+                "quiet from open",
+                &[
+                    TableSize(25),
+                    Table(20, 6),
+                    Table(21, 8),
+                    Table(22, 2),
+                    Word(6, CALL_8),
+                    Word(7, RET),
+                    Line(7, 64),
+                    Line(8, 192),
+                    Table(6, 4),
+                ],
+                "admitted 3",
             ),
             (
                 "open from open",
@@ -297,8 +336,18 @@ fn rule_12_stat_in_routines(rt: HostRuntime) -> Result<(), Fail> {
                 "refused 12 at 6",
             ),
             (
+                "AND",
+                &[Word(6, AND_TO_STAT), Word(7, NOP), Line(7, 64)],
+                "refused 12 at 6",
+            ),
+            (
                 "MUL",
                 &[Word(6, MUL_TO_STAT), Word(7, NOP), Line(7, 64)],
+                "refused 12 at 6",
+            ),
+            (
+                "lowest address",
+                &[Word(7, CMVD_TO_STAT), Line(7, 64), Word(6, MOVE_TO_STAT)],
                 "refused 12 at 6",
             ),
             (

@@ -23,9 +23,16 @@ pub(crate) const JUMP_7: u32 = 0x33_FFF8;
 
 pub(crate) const JUMP_9: u32 = 0x33_FFF6;
 
-pub(crate) const JZS_4: u32 = 0x36_FFFB;
-
-pub(crate) const JZS_6: u32 = 0x36_FFF9;
+// JCC, JVC, JZC, JCS, JVS, JZS and JEV, to 4 and to 6
+pub(crate) const CONDITIONAL_JUMPS: [(u32, u32); 7] = [
+    (0x30_FFFB, 0x30_FFF9),
+    (0x31_FFFB, 0x31_FFF9),
+    (0x32_FFFB, 0x32_FFF9),
+    (0x34_FFFB, 0x34_FFF9),
+    (0x35_FFFB, 0x35_FFF9),
+    (0x36_FFFB, 0x36_FFF9),
+    (0x37_FFFB, 0x37_FFF9),
+];
 
 pub(crate) const CALL_0: u32 = 0x39_FFFF;
 
@@ -72,6 +79,9 @@ pub(crate) const CMVS_TO_STAT: u32 = 0x0D_3FEA;
 
 // CMVD stat, r0
 pub(crate) const CMVD_TO_STAT: u32 = 0x0D_2FEA;
+
+// AND stat, r1, r0
+pub(crate) const AND_TO_STAT: u32 = 0x0C_2EDA;
 
 // MUL stat, r1, r0
 pub(crate) const MUL_TO_STAT: u32 = 0x0C_EEDA;

@@ -16,6 +16,11 @@ fn refused_33_for_the_length(rt: HostRuntime) -> Result<(), Fail> {
                 &[WordCount(8191), TableSize(1024)],
                 "refused 33 at 0",
             ),
+            (
+                "33 before 29",
+                &[WordCount(0), Append(1)],
+                "refused 33 at 0",
+            ),
             ("a byte too few", &[Cut(1)], "refused 33 at 0"),
             ("a byte too many", &[Append(1)], "refused 33 at 0"),
             ("n too large", &[SaidWords(10)], "refused 33 at 0"),
@@ -93,9 +98,11 @@ fn rule_2_sizes(rt: HostRuntime) -> Result<(), Fail> {
     check_all(
         &rt,
         &[
+            ("no number", &[TableSize(0)], "refused 2 at 0"),
             ("no record", &[TableSize(1)], "refused 2 at 0"),
             ("a number short", &[TableSize(20)], "refused 2 at 0"),
             ("a number long", &[TableSize(22)], "refused 2 at 0"),
+            ("two numbers long", &[TableSize(23)], "refused 2 at 0"),
             ("256 records", &[TableSize(1025)], "refused 2 at 0"),
             // its next is 2
             ("one record", &[TableSize(5)], "refused 3 at 1"),
