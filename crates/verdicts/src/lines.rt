@@ -386,8 +386,13 @@ fn rule_12_stat_from_memory(rt: HostRuntime) -> Result<(), Fail> {
                 "refused 12 at 6",
             ),
             (
-                "step",
-                &[Word(6, MOVE_FROM_STEP), Word(7, NOP), Line(7, 64)],
+                "increment",
+                &[Word(6, MOVE_FROM_INCREMENT), Word(7, NOP), Line(7, 64)],
+                "refused 12 at 6",
+            ),
+            (
+                "decrement",
+                &[Word(6, MOVE_FROM_DECREMENT), Word(7, NOP), Line(7, 64)],
                 "refused 12 at 6",
             ),
             (

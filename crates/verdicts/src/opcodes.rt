@@ -69,7 +69,10 @@ pub(crate) const MOVE_FROM_PAGE_0: u32 = 0x04_AAFF;
 pub(crate) const MOVE_FROM_OFFSET: u32 = 0x18_AA05;
 
 // MOVE stat, (i0, 0x05)+
-pub(crate) const MOVE_FROM_STEP: u32 = 0x10_AA05;
+pub(crate) const MOVE_FROM_INCREMENT: u32 = 0x10_AA05;
+
+// MOVE stat, -(i0, 0x05)
+pub(crate) const MOVE_FROM_DECREMENT: u32 = 0x10_AAFB;
 
 // MOVE stat, (i0, r3)
 pub(crate) const MOVE_FROM_R3: u32 = 0x06_AAFC;
